@@ -1,5 +1,5 @@
 -- What the machine for environment files accepts is one.
-use Rattle.std.proofs.Common.{◌≡◌, ℕ, Bool, true, false, List, [], ◌∷◌, ◌++◌, Some, None, arith, refl, sym, ◌∙◌, ap, subst}
+use Rattle.std.proofs.Common.{◌≡◌, ℕ, Bool, true, false, List, [], ◌∷◌, ◌++◌, Some, None, arith, refl, ◌∙◌, ap}
 use Rattle.std.proofs.lemmas.Grind.{common_steps}
 use Rattle.std.specs.List.{list_all}
 use Rattle.std.specs.Prelude.{codes}
@@ -171,10 +171,7 @@ single_more : (b : ℕ) (text : List ℕ) → is_single b ≡ true → SingleLef
 single_more b _ e (single_left bs p) = single_left (b ∷ bs) (passes-cons is_single b bs e p)
 
 single_ends : (b : ℕ) (text : List ℕ) → b ≡ 39 → text ≡ [] → SingleLeft (b ∷ text)
-single_ends b text e p =
-    let P : ℕ → Type 0 = λ n. SingleLeft (n ∷ text) in
-    let Q : List ℕ → Type 0 = λ t. SingleLeft (39 ∷ t) in
-    subst P (sym e) (subst Q (sym p) (single_left [] refl))
+single_ends b text e p = rw (e, p) (single_left [] refl)
 
 double_value : (b : ℕ) (text : List ℕ) → b ≡ 34 → DoubleLeft text → IsValue (b ∷ text)
 double_value b _ e (double_left bs p) = rw e (double bs p)
@@ -183,10 +180,7 @@ double_more : (b : ℕ) (text : List ℕ) → is_double b ≡ true → DoubleLef
 double_more b _ e (double_left bs p) = double_left (b ∷ bs) (plain e p)
 
 double_ends : (b : ℕ) (text : List ℕ) → b ≡ 34 → text ≡ [] → DoubleLeft (b ∷ text)
-double_ends b text e p =
-    let P : ℕ → Type 0 = λ n. DoubleLeft (n ∷ text) in
-    let Q : List ℕ → Type 0 = λ t. DoubleLeft (34 ∷ t) in
-    subst P (sym e) (subst Q (sym p) (double_left [] nothing))
+double_ends b text e p = rw (e, p) (double_left [] nothing)
 
 double_escape : (b : ℕ) (text : List ℕ) → b ≡ 92 → EscapeLeft text → DoubleLeft (b ∷ text)
 double_escape b _ e (escape_left c bs s p) = rw e (double_left (92 ∷ c ∷ bs) (escape s p))

@@ -282,8 +282,7 @@ object_tokens p text m = rw (lex_object text) (object_placed p (lex lexer.betwee
 
 key_tokens : (p : Place) (text key after value : List ℕ) → HasSpace text (34 ∷ key) → (r : Reads key after) → HasSpace after (58 ∷ value) → may_begin p ≡ true
     → Tokens p text ≡ kit.key r.content_is ∷ Tokens lexer.fresh value
-key_tokens p text key after value h r q m =
-    rw (lex_space text (34 ∷ key) h, string_lexed key after r, lex_space after (58 ∷ value) q, lex_colon value) (key_placed p r.content_is (lex lexer.between value) m)
+key_tokens p text key after value h r q m = rw (lex_space text (34 ∷ key) h, string_lexed key after r, lex_space after (58 ∷ value) q, lex_colon value) (key_placed p r.content_is (lex lexer.between value) m)
 
 array_val : (p : Place) (text rest : List ℕ) → may_begin p ≡ true → Enough (λ depth. Its depth (Tokens lexer.fresh text) (Tokens lexer.after_value rest))
     → Enough (λ depth. Val depth (Tokens p (91 ∷ text)) (Tokens lexer.after_value rest))
@@ -300,9 +299,7 @@ spaced : (p : Place) (text value after rest : List ℕ) → HasSpace text value 
 spaced p text value after rest s q v = (
   v.0,
   λ depth le.
-      let P : List Lexeme → Type 0 = λ ls. Val depth (punctuate p ls) (Tokens lexer.after_value rest) in
-      let Q : List Lexeme → Type 0 = λ ls. Val depth (Tokens p value) (punctuate lexer.after_value ls) in
-      subst P (sym (lex_space text value s)) (subst Q (lex_space after rest q) (v.1 depth le)),
+      rw (lex_space text value s, ← lex_space after rest q) (v.1 depth le),
 )
 
 last_of_items : (p : Place) (text rest : List ℕ) → Enough (λ depth. Val depth (Tokens p text) (Tokens lexer.after_value (93 ∷ rest)))

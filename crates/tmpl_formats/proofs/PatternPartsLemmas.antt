@@ -14,17 +14,11 @@ pub no_turn : (turn : Tree) (n : ℕ) → n ≡ 0 → IsRepeated turn n (Some n)
 no_turn turn n e = rw e none
 
 pub one_turn : (turn copy : Tree) (n : ℕ) → n ≡ 1 → copy ≡ turn → IsRepeated turn n (Some n) copy
-one_turn turn copy n e same =
-    let P : ℕ → Type 0 = λ k. IsRepeated turn k (Some k) turn in
-    let Q : Tree → Type 0 = λ t. IsRepeated turn n (Some n) t in
-    subst Q (sym same) (subst P (sym e) once)
+one_turn turn copy n e same = rw (same, e) once
 
 pub more_turns : (turn some others all : Tree) (m n count : ℕ) → m + n ≡ count → all ≡ tree.Both some others → IsRepeated turn m (Some m) some → IsRepeated turn n (Some n) others
     → IsRepeated turn count (Some count) all
-more_turns turn some others all m n count e same h k =
-    let P : ℕ → Type 0 = λ c. IsRepeated turn c (Some c) (tree.Both some others) in
-    let Q : Tree → Type 0 = λ t. IsRepeated turn count (Some count) t in
-    subst Q (sym same) (subst P e (sum h k))
+more_turns turn some others all m n count e same h k = rw (same, ← e) (sum h k)
 
 pub no_maybe : (turn : Tree) (n : ℕ) → n ≡ 0 → IsRepeated turn 0 (Some n) tree.Empty
 no_maybe turn n e = rw e none
@@ -34,10 +28,7 @@ one_maybe turn copy all e same = rw (e ∙ ap (λ t. tree.Either t tree.Empty) s
 
 pub more_maybes : (turn some others all : Tree) (m n count : ℕ) → m + n ≡ count → all ≡ tree.Both some others → IsRepeated turn 0 (Some m) some → IsRepeated turn 0 (Some n) others
     → IsRepeated turn 0 (Some count) all
-more_maybes turn some others all m n count e same h k =
-    let P : ℕ → Type 0 = λ c. IsRepeated turn 0 (Some c) (tree.Both some others) in
-    let Q : Tree → Type 0 = λ t. IsRepeated turn 0 (Some count) t in
-    subst Q (sym same) (subst P e (sum h k))
+more_maybes turn some others all m n count e same h k = rw (same, ← e) (sum h k)
 
 pub any_turns : (turn copy : Tree) → copy ≡ turn → IsRepeated turn 0 None (tree.Many copy)
 any_turns turn copy same = rw same any
@@ -119,8 +110,7 @@ no_items (x ∷ xs) e = absurd (omega arith)
 pub whole-row : (e : Bool) (text rest : List ℕ) (new : List Node) (t : Tree) → length new ≡ 0 → Ended e (separator e ++ text) (trees_of new) t rest → HasPiece e text t rest
 whole-row e text rest new t empty h =
     let P : List Node → Type 0 = λ ns. HasRow e (separator e ++ text) (trees_of ns) (separator e ++ h.0) in
-    let Q : List ℕ → Type 0 = λ s. HasPiece e s t rest in
-    subst Q (sym (same_behind e text h.0 (row_end e (separator e ++ text) (separator e ++ h.0) (subst P (no_items new empty) h.1)))) h.2
+    rw (same_behind e text h.0 (row_end e (separator e ++ text) (separator e ++ h.0) (subst P (no_items new empty) h.1))) h.2
 
 push : (e : Bool) (text next end rest : List ℕ) (trees : List Tree) (t : Tree) → end ≡ separator e ++ next → HasRow e text trees end → HasPiece e next t rest → HasRow e text (trees ++ t ∷ []) rest
 push e _ next end rest _ t is no_piece p = rw is (piece next p no_piece)

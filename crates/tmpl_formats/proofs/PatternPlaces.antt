@@ -79,11 +79,7 @@ part_of (Many x) next b s h =
 -- ---- .. and the other way
 
 from_no_part : (next : Place) (b part after : List ℕ) → part ≡ [] → next (b ++ part) after → next b (part ++ after)
-from_no_part next b part after e h =
-    let P : List ℕ → Type 0 = λ p. next (b ++ p) after in
-    let Q : List ℕ → Type 0 = λ d. next d after in
-    let R : List ℕ → Type 0 = λ p. next b (p ++ after) in
-    subst R (sym e) (subst Q (append_nil b) (subst P e h))
+from_no_part next b part after e h = rw (e, ← append_nil b, ← e) h
 
 joined : (next other : Place) (has : Place → Place) (Is_one Is_other : Part) (b part after : List ℕ)
     → ((b part after : List ℕ) → Is_one b part after → other (b ++ part) after → has other b (part ++ after))

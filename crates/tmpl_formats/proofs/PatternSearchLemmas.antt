@@ -82,10 +82,7 @@ from_later p b c s h =
     (c ∷ h.0, h.1, ap (λ r. c ∷ r) h.2, subst P (append_assoc b (c ∷ []) h.0) h.3)
 
 later_end_at : (p : Tree) (b skip rest : List ℕ) → [] ≡ skip ++ rest → Leads p Any (b ++ skip) rest → Leads p Any b []
-later_end_at p b [] rest e h =
-    let P : List ℕ → Type 0 = λ d. Leads p Any d rest in
-    let Q : List ℕ → Type 0 = λ r. Leads p Any b r in
-    subst Q (sym e) (subst P (append_nil b) h)
+later_end_at p b [] rest e h = rw (e, ← append_nil b) h
 later_end_at p b (d ∷ skip) rest e h = absurd (cc)
 
 -- ---- a search

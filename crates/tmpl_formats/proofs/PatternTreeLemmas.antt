@@ -1,5 +1,5 @@
 -- Atoms and terms of regular expressions.
-use Rattle.std.proofs.Common.{◌≡◌, ℕ, Bool, false, List, [], ◌∷◌, ◌++◌, length, arith, ap, ◌∙◌, Option, Some, None, Result, Ok, Err, refl, sym, subst}
+use Rattle.std.proofs.Common.{◌≡◌, ℕ, Bool, false, List, [], ◌∷◌, ◌++◌, length, arith, ap, ◌∙◌, Option, Some, None, Result, Ok, Err, refl, subst}
 use Rattle.std.specs.Prelude.{IfOk, IfSome}
 use Rattle.tmpl_formats.specs.Pattern as tree
 use Rattle.tmpl_formats.specs.Pattern.{Tree}
@@ -14,10 +14,7 @@ pub atom-of : {E : Type 0} (text now read : List ℕ) (t : Tree) (r : Result (Op
     → IfOk r (λ o. IfSome o (λ node. HasAtom text (tree_of node) now))
 atom-of text now read t (Err e) h same atom = tt
 atom-of text now read t (Ok None) h same atom = tt
-atom-of text now read t (Ok (Some node)) h same atom =
-    let P : List ℕ → Type 0 = λ s. HasAtom text t s in
-    let Q : Tree → Type 0 = λ p. HasAtom text p now in
-    subst Q (sym h) (subst P (sym same) atom)
+atom-of text now read t (Ok (Some node)) h same atom = rw (h, same) atom
 
 -- an atom and its repetition
 pub term-of : {E : Type 0} (text left now : List ℕ) (turn : Tree) (r : Result (Option Node) E) → HasAtom text turn left
@@ -53,5 +50,4 @@ nothing_in text _ no_piece = nothing
 pub row-none : (text rest next : List ℕ) (nodes : List Node) → length nodes ≡ 0 → next ≡ rest → HasRow false text (trees_of nodes) rest → HasSequence text tree.Empty next
 row-none text rest next nodes is same row =
     let P : List Node → Type 0 = λ ns. HasRow false text (trees_of ns) rest in
-    let Q : List ℕ → Type 0 = λ s. HasSequence text tree.Empty s in
-    subst Q (sym same) (nothing_in text rest (subst P (none_there nodes is) row))
+    rw same (nothing_in text rest (subst P (none_there nodes is) row))

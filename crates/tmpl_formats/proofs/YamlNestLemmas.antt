@@ -3,7 +3,7 @@ use Rattle.std.proofs.Common.{◌≡◌, ◌⊎◌, inl, inr, ◌≤◌, ℕ, su
 use Rattle.std.proofs.lemmas.Grind.{common_steps}
 use Rattle.std.specs.Prelude.{option_map, option_and_then}
 use Rattle.tmpl_formats.specs.Yaml.{HasFlow, flow_scalar, flow_open, HasEntry, element, member, HasInside, closed, last_entry, more_entries, HasNode, nothing, a_scalar, brackets, a_map, a_sequence, HasKeys, no_key, a_key, HasValue, beyond, level, HasItems, no_item, an_item, IsDocuments, last_document, more_documents}
-use Rattle.tmpl_formats.specs.computed.YamlNest.{Nest, nest_at, head_of, push_if, expect_if, open_if, is_value, is_nothing, holds, holds_in, holds_at, item, item_at, key, key_at, close_if, close as close_change, comma as comma_change, marker as marker_change, applied, taken, is_over, unwound_from, settled, may_begin, begun, may_dash, dashed, taken_item, happened}
+use Rattle.tmpl_formats.specs.computed.YamlNest.{Nest, nest_at, head_of, push_if, expect_if, open_if, is_value, is_nothing, holds, holds_in, holds_at, item, item_at, key, key_at, close_if, close as close_change, comma as comma_change, marker as marker_change, applied, taken, is_over, unwound_from, settled, may_begin, begun, taken_item, happened}
 use Rattle.tmpl_formats.specs.declared.yaml_nest.Bracket.{Bracket}
 use Rattle.tmpl_formats.specs.declared.yaml_nest.Bracket.TheVariants as bracket
 use Rattle.tmpl_formats.specs.declared.yaml_nest.Change.{Change}
@@ -329,17 +329,11 @@ if_fits : (t : Bool) (n : Nest) (ts : List Token) → Fits (cond t (Some n) None
 if_fits true n ts p = p
 if_fits false n ts p = absurd p
 
-begun_fits : (c : ℕ) (e : Expects) (ls : List Level) (bs : List Bracket) (ts : List Token) → Fits (begun c (nest_at e ls bs)) ts → LeftAt e ls bs ts
-begun_fits c e ls [] ts p =
-    let n = settled c false (nest_at e ls []) in
-    settled_fits (holds c e (head_of ls)) c false e ls ts (if_fits (may_begin c n.awaited (head_of n.levels)) n ts p)
-begun_fits c e ls (k ∷ bs) ts p = absurd p
-
-dashed_fits : (c : ℕ) (e : Expects) (ls : List Level) (bs : List Bracket) (ts : List Token) → Fits (dashed c (nest_at e ls bs)) ts → LeftAt e ls bs ts
-dashed_fits c e ls [] ts p =
-    let n = settled c true (nest_at e ls []) in
-    settled_fits (holds c e (head_of ls)) c true e ls ts (if_fits (may_dash c n.awaited (head_of n.levels)) n ts p)
-dashed_fits c e ls (k ∷ bs) ts p = absurd p
+begun_fits : (c : ℕ) (is_item : Bool) (e : Expects) (ls : List Level) (bs : List Bracket) (ts : List Token) → Fits (begun c is_item (nest_at e ls bs)) ts → LeftAt e ls bs ts
+begun_fits c is_item e ls [] ts p =
+    let n = settled c is_item (nest_at e ls []) in
+    settled_fits (holds c e (head_of ls)) c is_item e ls ts (if_fits (may_begin c is_item n.awaited (head_of n.levels)) n ts p)
+begun_fits c is_item e ls (k ∷ bs) ts p = absurd p
 
 taken_item_fits : (c : ℕ) (e : Expects) (ls : List Level) (bs : List Bracket) (ts : List Token) → Fits (taken_item c (nest_at e ls bs)) ts → LeftAt e ls bs (token.Item c ∷ ts)
 taken_item_fits c e ls [] ts p = settled_fits (holds c e (head_of ls)) c true e ls (token.Item c ∷ ts) (taken_fits (token.Item c) (settled c true (nest_at e ls [])) ts p)
@@ -362,8 +356,8 @@ enter_fits false n ts p = p
 
 pub happened_fits : (e : Event) (n : Nest) (ts : List Token) → Fits (happened e n) ts → Left n (tokens_of e ++ ts)
 happened_fits event.Nothing n ts p = p
-happened_fits (event.Begin c) n ts p = begun_fits c n.awaited n.levels n.brackets ts p
-happened_fits (event.Dash c) n ts p = dashed_fits c n.awaited n.levels n.brackets ts p
+happened_fits (event.Begin c) n ts p = begun_fits c false n.awaited n.levels n.brackets ts p
+happened_fits (event.Dash c) n ts p = begun_fits c true n.awaited n.levels n.brackets ts p
 happened_fits event.Enter n ts p = enter_fits (is_nothing n.awaited) n ts p
 happened_fits (event.Item c) n ts p = taken_item_fits c n.awaited n.levels n.brackets ts p
 happened_fits (event.One t) n ts p = taken_fits t n ts p

@@ -174,9 +174,7 @@ impl<'t> Reader<'t> {
     fn counts(&mut self) -> Option<Times>
         ensures { IfSome result (λ times. HasTimes (byte "{" ∷ self.old.rest.now) times.least times.most self.new.rest.now) }
     {
-        let Some(least) = self.number(10) else {
-            return None;
-        };
+        let least = self.number(10)?;
         if self.takes('}') {
             return Some(Times {
                 least,
@@ -189,9 +187,7 @@ impl<'t> Reader<'t> {
         if self.takes('}') {
             return Some(Times { least, most: None });
         }
-        let Some(most) = self.number(10) else {
-            return None;
-        };
+        let most = self.number(10)?;
         if most < least {
             return None;
         }
@@ -209,9 +205,7 @@ impl<'t> Reader<'t> {
     fn times(&mut self) -> Option<Times>
         ensures { IfSome result (λ times. HasTimes self.old.rest.now times.least times.most self.new.rest.now) }
     {
-        let Some(c) = self.next() else {
-            return None;
-        };
+        let c = self.next()?;
         match c {
             '*' => Some(Times {
                 least: 0,
@@ -248,9 +242,7 @@ impl<'t> Reader<'t> {
                 most: Some(1),
             });
         }
-        let Some(times) = self.times() else {
-            return None;
-        };
+        let times = self.times()?;
         if self.takes('?') {
             Some(times)
         } else {

@@ -109,19 +109,13 @@ impl<'t> Reader<'t> {
         ensures { MatchOption result (self.new.rest.now ≡ self.old.rest.now)
             (λ n. (c : ℕ) × (self.old.rest.now ≡ c ∷ self.new.rest.now) × (digit_value c < base) × (n ≡ number * base + digit_value c)) }
     {
-        let Some((first, rest)) = self.rest.split_first() else {
-            return None;
-        };
+        let (first, rest) = self.rest.split_first()?;
         let digit = digit_of(*first);
         if digit >= base {
             return None;
         }
-        let Some(product) = number.checked_mul(base) else {
-            return None;
-        };
-        let Some(next) = product.checked_add(digit) else {
-            return None;
-        };
+        let product = number.checked_mul(base)?;
+        let next = product.checked_add(digit)?;
         if next > MOST_CODE {
             return None;
         }
@@ -133,9 +127,7 @@ impl<'t> Reader<'t> {
     pub(crate) fn number(&mut self, base: u32) -> Option<u32>
         ensures { IfSome result (λ n. (count : ℕ) × (0 < count) × HasDigits base count 0 self.old.rest.now n self.new.rest.now) }
     {
-        let Some(first) = self.digit(base, 0) else {
-            return None;
-        };
+        let first = self.digit(base, 0)?;
         let mut number = first;
         while let Some(next) = self.digit(base, number) {
             number = next;
@@ -149,9 +141,7 @@ impl<'t> Reader<'t> {
     {
         let mut number = 0;
         for _ in 0..count {
-            let Some(next) = self.digit(16, number) else {
-                return None;
-            };
+            let next = self.digit(16, number)?;
             number = next;
         }
         Some(number)
@@ -162,14 +152,10 @@ impl<'t> Reader<'t> {
         ensures { IfSome result (λ n. HasEscape (byte "u" ∷ self.old.rest.now) n self.new.rest.now) }
     {
         if !self.takes('{') {
-            let Some(code) = self.hexadecimal(4) else {
-                return None;
-            };
+            let code = self.hexadecimal(4)?;
             return if is_character(code) { Some(code) } else { None };
         }
-        let Some(code) = self.number(16) else {
-            return None;
-        };
+        let code = self.number(16)?;
         if self.takes('}') && is_character(code) {
             Some(code)
         } else {
@@ -181,9 +167,7 @@ impl<'t> Reader<'t> {
     pub(crate) fn escape(&mut self) -> Option<u32>
         ensures { IfSome result (λ n. HasEscape self.old.rest.now n self.new.rest.now) }
     {
-        let Some(c) = self.next() else {
-            return None;
-        };
+        let c = self.next()?;
         match c {
             't' => Some(9),
             'n' => Some(10),

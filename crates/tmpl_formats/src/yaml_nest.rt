@@ -173,18 +173,11 @@ fn change_of(
     }
 }
 
-/// The innermost map or sequence.
-fn innermost(levels: &Vec<Level>) -> Option<Level>
-    ensures { result ≡ computed.head_of (reverse levels.now.items) }
+/// The innermost of the levels or of the brackets.
+fn innermost<T: Copy>(stack: &Vec<T>) -> Option<T>
+    ensures { result ≡ computed.head_of (reverse stack.now.items) }
 {
-    levels.last().copied()
-}
-
-/// The innermost brackets.
-fn innermost_bracket(brackets: &Vec<Bracket>) -> Option<Bracket>
-    ensures { result ≡ computed.head_of (reverse brackets.now.items) }
-{
-    brackets.last().copied()
+    stack.last().copied()
 }
 
 /// Does what a token does.
@@ -213,23 +206,14 @@ fn apply(nest: &mut Nest, change: Change) -> Result<(), AllocError>
     Ok(())
 }
 
-/// Whether a level ends before an entry at a column: a sequence at the column of a key ends there too.
-fn is_over(level: Level, column: u64, is_item: bool) -> bool
-    ensures { result ≡ computed.is_over level column is_item }
-{
-    match level {
-        Level::Map(own) => column < own,
-        Level::Sequence(own) => if is_item { column < own } else { column <= own },
-    }
-}
-
-/// Whether the innermost level ends before an entry at a column.
+/// Whether the innermost level ends before an entry at a column: a sequence at the column of a key ends there too.
 fn is_top_over(top: Option<Level>, column: u64, is_item: bool) -> bool
     ensures { result ≡ computed.is_top_over top column is_item }
 {
     match top {
         None => false,
-        Some(level) => is_over(level, column, is_item),
+        Some(Level::Sequence(own)) if !is_item => column <= own,
+        Some(Level::Map(own) | Level::Sequence(own)) => column < own,
     }
 }
 
@@ -263,61 +247,33 @@ fn settle(nest: &mut Nest, column: u64, is_item: bool)
 fn take(nest: &mut Nest, token: Token) -> Result<bool, AllocError>
     ensures { IfOk result (λ went. computed.taken token (nest_of nest.old) ≡ (if went then Some (nest_of nest.new) else None)) }
 {
-    match change_of(
-        token,
-        nest.expects,
-        innermost(&nest.levels),
-        innermost_bracket(&nest.brackets),
-    ) {
-        Some(change) => {
-            apply(nest, change)?;
-            Ok(true)
-        }
-        None => Ok(false),
-    }
+    let top = innermost(&nest.levels);
+    let Some(change) = change_of(token, nest.expects, top, innermost(&nest.brackets)) else {
+        return Ok(false);
+    };
+    apply(nest, change)?;
+    Ok(true)
 }
 
-/// Whether a key or a value may begin at a column.
-fn may_begin(column: u64, expects: Expects, top: Option<Level>) -> bool
-    ensures { result ≡ computed.may_begin column expects top }
+/// Whether a key, a value or, if asked for, an item may begin at a column.
+fn may_begin(column: u64, is_item: bool, expects: Expects, top: Option<Level>) -> bool
+    ensures { result ≡ computed.may_begin column is_item expects top }
 {
     match top {
         Some(Level::Map(own)) => own == column || holds(column, expects, top),
-        _ => holds(column, expects, top),
+        Some(Level::Sequence(own)) => is_item && own == column || holds(column, expects, top),
+        None => holds(column, expects, top),
     }
 }
 
-/// Ends what ends before a key or a value at a column; whether one may begin there.
-fn begin(nest: &mut Nest, column: u64) -> bool
-    ensures { computed.begun column (nest_of nest.old) ≡ (if result then Some (nest_of nest.new) else None) }
+/// Ends what ends before an entry at a column; whether one may begin there.
+fn begin(nest: &mut Nest, column: u64, is_item: bool) -> bool
+    ensures { computed.begun column is_item (nest_of nest.old) ≡ (if result then Some (nest_of nest.new) else None) }
 {
-    match innermost_bracket(&nest.brackets) {
+    match innermost(&nest.brackets) {
         None => {
-            settle(nest, column, false);
-            may_begin(column, nest.expects, innermost(&nest.levels))
-        }
-        Some(_) => false,
-    }
-}
-
-/// Whether an item, a key or a value may begin at a column.
-fn may_dash(column: u64, expects: Expects, top: Option<Level>) -> bool
-    ensures { result ≡ computed.may_dash column expects top }
-{
-    match top {
-        Some(Level::Sequence(own)) => own == column || holds(column, expects, top),
-        _ => may_begin(column, expects, top),
-    }
-}
-
-/// Ends what ends before an item, a key or a value at a column; whether one may begin there.
-fn dash(nest: &mut Nest, column: u64) -> bool
-    ensures { computed.dashed column (nest_of nest.old) ≡ (if result then Some (nest_of nest.new) else None) }
-{
-    match innermost_bracket(&nest.brackets) {
-        None => {
-            settle(nest, column, true);
-            may_dash(column, nest.expects, innermost(&nest.levels))
+            settle(nest, column, is_item);
+            may_begin(column, is_item, nest.expects, innermost(&nest.levels))
         }
         Some(_) => false,
     }
@@ -327,7 +283,7 @@ fn dash(nest: &mut Nest, column: u64) -> bool
 fn take_item(nest: &mut Nest, column: u64) -> Result<bool, AllocError>
     ensures { IfOk result (λ went. computed.taken_item column (nest_of nest.old) ≡ (if went then Some (nest_of nest.new) else None)) }
 {
-    match innermost_bracket(&nest.brackets) {
+    match innermost(&nest.brackets) {
         None => {
             settle(nest, column, true);
             take(nest, Token::Item(column))
@@ -353,8 +309,8 @@ pub(crate) fn happen(nest: &mut Nest, event: Event) -> Result<bool, AllocError>
 {
     match event {
         Event::Nothing => Ok(true),
-        Event::Begin(column) => Ok(begin(nest, column)),
-        Event::Dash(column) => Ok(dash(nest, column)),
+        Event::Begin(column) => Ok(begin(nest, column, false)),
+        Event::Dash(column) => Ok(begin(nest, column, true)),
         Event::Enter => Ok(!is_nothing(nest.expects)),
         Event::Item(column) => take_item(nest, column),
         Event::One(token) => take(nest, token),
@@ -366,7 +322,7 @@ pub(crate) fn happen(nest: &mut Nest, event: Event) -> Result<bool, AllocError>
 pub(crate) fn is_in_brackets(nest: &Nest) -> bool
     ensures { result ≡ computed.is_in_brackets (nest_of nest.now) }
 {
-    innermost_bracket(&nest.brackets).is_some()
+    innermost(&nest.brackets).is_some()
 }
 
 impl Nest {

@@ -139,33 +139,20 @@ unwound c is_item n = unwound_from c is_item n.awaited n.levels n.brackets
 abbrev pub settled : ℕ → Bool → Nest → Nest
 settled c is_item n = if holds c n.awaited (head_of n.levels) then n else unwound c is_item n
 
-abbrev pub may_begin : ℕ → Expects → Option Level → Bool
-may_begin c e (Some (level.Map d)) = (d == c) || holds c e (Some (level.Map d))
-may_begin c e top = holds c e top
+abbrev pub may_begin : ℕ → Bool → Expects → Option Level → Bool
+may_begin c is_item e (Some (level.Map d)) = (d == c) || holds c e (Some (level.Map d))
+may_begin c is_item e (Some (level.Sequence d)) = (is_item && (d == c)) || holds c e (Some (level.Sequence d))
+may_begin c is_item e None = holds c e None
 
-abbrev pub if_begins : ℕ → Nest → Option Nest
-if_begins c n = if may_begin c n.awaited (head_of n.levels) then Some n else None
+abbrev pub if_begins : ℕ → Bool → Nest → Option Nest
+if_begins c is_item n = if may_begin c is_item n.awaited (head_of n.levels) then Some n else None
 
-abbrev pub begun_in : ℕ → Nest → Option Bracket → Option Nest
-begun_in c n None = if_begins c (settled c false n)
-begun_in c n (Some k) = None
+abbrev pub begun_in : ℕ → Bool → Nest → Option Bracket → Option Nest
+begun_in c is_item n None = if_begins c is_item (settled c is_item n)
+begun_in c is_item n (Some k) = None
 
-abbrev pub begun : ℕ → Nest → Option Nest
-begun c n = begun_in c n (head_of n.brackets)
-
-abbrev pub may_dash : ℕ → Expects → Option Level → Bool
-may_dash c e (Some (level.Sequence d)) = (d == c) || holds c e (Some (level.Sequence d))
-may_dash c e top = may_begin c e top
-
-abbrev pub if_dashes : ℕ → Nest → Option Nest
-if_dashes c n = if may_dash c n.awaited (head_of n.levels) then Some n else None
-
-abbrev pub dashed_in : ℕ → Nest → Option Bracket → Option Nest
-dashed_in c n None = if_dashes c (settled c true n)
-dashed_in c n (Some k) = None
-
-abbrev pub dashed : ℕ → Nest → Option Nest
-dashed c n = dashed_in c n (head_of n.brackets)
+abbrev pub begun : ℕ → Bool → Nest → Option Nest
+begun c is_item n = begun_in c is_item n (head_of n.brackets)
 
 abbrev pub taken_item_in : ℕ → Nest → Option Bracket → Option Nest
 taken_item_in c n None = taken (token.Item c) (settled c true n)
@@ -179,8 +166,8 @@ taken_two t u n = option_and_then (λ m. taken u m) (taken t n)
 
 abbrev pub happened : Event → Nest → Option Nest
 happened event.Nothing n = Some n
-happened (event.Begin c) n = begun c n
-happened (event.Dash c) n = dashed c n
+happened (event.Begin c) n = begun c false n
+happened (event.Dash c) n = begun c true n
 happened event.Enter n = if is_nothing n.awaited then None else Some n
 happened (event.Item c) n = taken_item c n
 happened (event.One t) n = taken t n

@@ -1,6 +1,6 @@
-use Rattle.std.proofs.Common.{◌≡◌, ◌-◌, ◌+◌, ℕ, length, take, drop, Some, None, ap, sym, ◌∙◌, subst, arith, length-drop}
+use Rattle.std.proofs.Common.{◌≡◌, ◌-◌, ◌+◌, length, take, drop, Some, None, ap, ◌∙◌, arith, length-drop}
 use Rattle.std.proofs.lemmas.List.{length-take-le}
-use Rattle.tmpl_formats.proofs.LinesLoopLemmas.{IsAtLine, line-goes_on, line-next, line-refused, text-ends, last-line, last-fits, place-fits}
+use Rattle.tmpl_formats.proofs.LinesLoopLemmas.{line-goes_on, line-next, line-refused, text-ends, last-line, last-fits, place-fits}
 use Rattle.tmpl_formats.specs.PatternView.{marks_of}
 use Rattle.tmpl_formats.proofs.lines.lines_mistake.Goals as goal
 use Rattle.tmpl_formats.proofs.lines.lines_mistake.Goals.{then-byte-eq10+in_ok-mistake+in_default, else-byte-eq10}
@@ -26,13 +26,11 @@ pub loop-offset-preserved : goal.loop-offset-preserved
 loop-offset-preserved c =
     elim c.if-byte-eq10.branch [
       | then-byte-eq10+in_ok-mistake+in_default w ↦
-          (let P : ℕ → Type 0 = λ s. IsAtLine (marks_of c.args.pattern.now.root) c.args.text.now s (c.loop-offset.offset + 1) in
-          subst P (sym w.start-is)
+          (rw w.start-is
           (line-next (marks_of c.args.pattern.now.root) c.args.text.now c.loop-offset.start c.loop-offset.offset c.loop-offset-test.true c.loop-offset.invariant w.if-byte-eq10.true
           (rw w.in_default.is at w.in_ok-mistake.ensures)))
       | else-byte-eq10 w ↦
-          (let P : ℕ → Type 0 = λ s. IsAtLine (marks_of c.args.pattern.now.root) c.args.text.now s (c.loop-offset.offset + 1) in
-          subst P (sym w.start-is)
+          (rw w.start-is
           (line-goes_on (marks_of c.args.pattern.now.root) c.args.text.now c.loop-offset.start c.loop-offset.offset c.loop-offset-test.true c.loop-offset.invariant w.if-byte-eq10.false))
     ]
 
