@@ -15,29 +15,29 @@ use Rattle.tmpl_formats.specs.declared.env.Sign.TheVariants as sign
 
 -- ---- which kinds pass a test
 
-abbrev newline_sign : Sign → Bool
-newline_sign sign.Newline = true
-newline_sign _ = false
+abbrev code_of : Sign → ℕ
+code_of sign.Newline = 10
+code_of sign.Hash = 35
+code_of sign.Equals = 61
+code_of sign.Single = 39
+code_of sign.Double = 34
+code_of sign.Backslash = 92
+code_of _ = 0
 
-abbrev hash_sign : Sign → Bool
-hash_sign sign.Hash = true
-hash_sign _ = false
+abbrev is_code : Sign → Bool
+is_code sign.Expanding = false
+is_code sign.Plain = false
+is_code sign.Letter = false
+is_code sign.Digit = false
+is_code sign.Other = false
+is_code _ = true
 
-abbrev equals_sign : Sign → Bool
-equals_sign sign.Equals = true
-equals_sign _ = false
+codes_of : (b : ℕ) → is_code (sign_of b) ≡ true → b ≡ code_of (sign_of b)
+codes_of b = grind (arith, common_steps)
 
-abbrev single_quote_sign : Sign → Bool
-single_quote_sign sign.Single = true
-single_quote_sign _ = false
-
-abbrev double_quote_sign : Sign → Bool
-double_quote_sign sign.Double = true
-double_quote_sign _ = false
-
-abbrev backslash_sign : Sign → Bool
-backslash_sign sign.Backslash = true
-backslash_sign _ = false
+-- the byte of a kind that has one
+byte_of : (s : Sign) (b : ℕ) → sign_of b ≡ s → is_code s ≡ true → b ≡ code_of s
+byte_of s b e i = codes_of b (ap is_code e ∙ i) ∙ ap code_of e
 
 abbrev comment_sign : Sign → Bool
 comment_sign sign.Newline = false
@@ -78,24 +78,6 @@ bare_sign sign.Plain = true
 bare_sign sign.Letter = true
 bare_sign sign.Digit = true
 bare_sign _ = false
-
-newlines : (b : ℕ) → newline_sign (sign_of b) ≡ true → b ≡ 10
-newlines b = grind (arith, common_steps)
-
-hashes : (b : ℕ) → hash_sign (sign_of b) ≡ true → b ≡ 35
-hashes b = grind (arith, common_steps)
-
-equals : (b : ℕ) → equals_sign (sign_of b) ≡ true → b ≡ 61
-equals b = grind (arith, common_steps)
-
-single_quotes : (b : ℕ) → single_quote_sign (sign_of b) ≡ true → b ≡ 39
-single_quotes b = grind (arith, common_steps)
-
-double_quotes : (b : ℕ) → double_quote_sign (sign_of b) ≡ true → b ≡ 34
-double_quotes b = grind (arith, common_steps)
-
-backslashes : (b : ℕ) → backslash_sign (sign_of b) ≡ true → b ≡ 92
-backslashes b = grind (arith, common_steps)
 
 comments : (b : ℕ) → is_comment b ≡ comment_sign (sign_of b)
 comments b = grind (arith, common_steps)
@@ -150,7 +132,7 @@ Goes c text = Left IsLine (LeftAt c) text
 -- ---- one byte more
 
 line_ends : (c : Control) (b : ℕ) (text : List ℕ) → sign_of b ≡ sign.Newline → LeftAt c [] → Goes at.Start text → Goes c (b ∷ text)
-line_ends c b text e p rest = rw (newlines b (ap newline_sign e)) (left-newline text p rest)
+line_ends c b text e p rest = rw (byte_of sign.Newline b e refl) (left-newline text p rest)
 
 name_more : (b : ℕ) (text : List ℕ) → is_name_byte b ≡ true → NameLeft text → NameLeft (b ∷ text)
 name_more b _ e (name_left name value n v) = name_left (b ∷ name) value (passes-cons is_name_byte b name e n) v
@@ -201,7 +183,7 @@ on d text known h = known d (went (λ x. mistake step ends x text) d h)
 
 at_start : (s : Sign) (b : ℕ) (text : List ℕ) → sign_of b ≡ s → Accepts at.Start s text → Known text → Goes at.Start (b ∷ text)
 at_start sign.Newline b text e h known = line_ends at.Start b text e empty (on at.Start text known h)
-at_start sign.Hash b text e h known = left-cons b text (λ t p. comment_line b t (hashes b (ap hash_sign e)) p) (on at.Comment text known h)
+at_start sign.Hash b text e h known = left-cons b text (λ t p. comment_line b t (byte_of sign.Hash b e refl) p) (on at.Comment text known h)
 at_start sign.Letter b text e h known = left-cons b text (λ t p. name_starts_line b t (name_starts b (ap name_start_sign e)) p) (on at.Name text known h)
 at_start _ b text e h known = cc
 
@@ -212,7 +194,7 @@ at_comment sign.Backslash b text e h known = cc
 at_comment _ b text e h known = left-cons b text (λ t p. passes-cons is_comment b t (comments b ∙ ap comment_sign e) p) (on at.Comment text known h)
 
 at_name : (s : Sign) (b : ℕ) (text : List ℕ) → sign_of b ≡ s → Accepts at.Name s text → Known text → Goes at.Name (b ∷ text)
-at_name sign.Equals b text e h known = left-cons b text (λ t p. name_ends b t (equals b (ap equals_sign e)) p) (on at.Equals text known h)
+at_name sign.Equals b text e h known = left-cons b text (λ t p. name_ends b t (byte_of sign.Equals b e refl) p) (on at.Equals text known h)
 at_name sign.Letter b text e h known = left-cons b text (λ t p. name_more b t (names b (ap name_sign e)) p) (on at.Name text known h)
 at_name sign.Digit b text e h known = left-cons b text (λ t p. name_more b t (names b (ap name_sign e)) p) (on at.Name text known h)
 at_name _ b text e h known = cc
@@ -234,20 +216,20 @@ bare_value _ (at_last p) = at_last (bare p)
 bare_value _ (before_more rest others p ls) = before_more rest others (bare p) ls
 
 at_equals : (s : Sign) (b : ℕ) (text : List ℕ) → sign_of b ≡ s → Accepts at.Equals s text → Known text → Goes at.Equals (b ∷ text)
-at_equals sign.Single b text e h known = left-cons b text (λ t p. single_value b t (single_quotes b (ap single_quote_sign e)) p) (on at.Single text known h)
-at_equals sign.Double b text e h known = left-cons b text (λ t p. double_value b t (double_quotes b (ap double_quote_sign e)) p) (on at.Double text known h)
+at_equals sign.Single b text e h known = left-cons b text (λ t p. single_value b t (byte_of sign.Single b e refl) p) (on at.Single text known h)
+at_equals sign.Double b text e h known = left-cons b text (λ t p. double_value b t (byte_of sign.Double b e refl) p) (on at.Double text known h)
 at_equals s b text e h known = bare_value (b ∷ text) (at_bare s b text e h known)
 
 at_single : (s : Sign) (b : ℕ) (text : List ℕ) → sign_of b ≡ s → Accepts at.Single s text → Known text → Goes at.Single (b ∷ text)
 at_single sign.Null b text e h known = cc
-at_single sign.Single b text e h known = left-cons b text (λ t p. single_ends b t (single_quotes b (ap single_quote_sign e)) p) (on at.Closed text known h)
+at_single sign.Single b text e h known = left-cons b text (λ t p. single_ends b t (byte_of sign.Single b e refl) p) (on at.Closed text known h)
 at_single _ b text e h known = left-cons b text (λ t p. single_more b t (singles b ∙ ap single_sign e) p) (on at.Single text known h)
 
 at_double : (s : Sign) (b : ℕ) (text : List ℕ) → sign_of b ≡ s → Accepts at.Double s text → Known text → Goes at.Double (b ∷ text)
 at_double sign.Null b text e h known = cc
 at_double sign.Expanding b text e h known = cc
-at_double sign.Double b text e h known = left-cons b text (λ t p. double_ends b t (double_quotes b (ap double_quote_sign e)) p) (on at.Closed text known h)
-at_double sign.Backslash b text e h known = left-cons b text (λ t p. double_escape b t (backslashes b (ap backslash_sign e)) p) (on at.Escape text known h)
+at_double sign.Double b text e h known = left-cons b text (λ t p. double_ends b t (byte_of sign.Double b e refl) p) (on at.Closed text known h)
+at_double sign.Backslash b text e h known = left-cons b text (λ t p. double_escape b t (byte_of sign.Backslash b e refl) p) (on at.Escape text known h)
 at_double _ b text e h known = left-cons b text (λ t p. double_more b t (doubles b ∙ ap double_sign e) p) (on at.Double text known h)
 
 at_escape : (s : Sign) (b : ℕ) (text : List ℕ) → sign_of b ≡ s → Accepts at.Escape s text → Known text → Goes at.Escape (b ∷ text)
