@@ -1,12 +1,12 @@
 -- What the machine for JSON accepts is JSON.
-use Rattle.std.proofs.Common.{◌≡◌, ◌≢◌, ◌<◌, ◌≤◌, ◌⊎◌, inl, inr, ℕ, ◌+◌, ◌==◌, Bool, true, false, cond, ◌&&◌, List, [], ◌∷◌, Option, Some, None, arith, refl, sym, ◌∙◌, ap}
+use Rattle.std.proofs.Common.{◌≡◌, ◌≢◌, ◌<◌, ◌≤◌, ◌⊎◌, inl, inr, ℕ, ◌+◌, ◌==◌, Bool, true, false, cond, ◌&&◌, List, [], ◌∷◌, ◌++◌, Option, Some, None, arith, refl, sym, ◌∙◌, ap}
 use Rattle.std.proofs.lemmas.Grind.{common_steps}
 use Rattle.std.specs.Char.{is_ascii_digit}
-use Rattle.std.specs.Prelude.{nat_lt, option_map}
-use Rattle.tmpl_formats.proofs.MachineLemmas.{went}
+use Rattle.std.specs.Prelude.{nat_le, nat_lt, option_map}
+use Rattle.tmpl_formats.proofs.MachineLemmas.{went, Then, both}
 use Rattle.tmpl_formats.proofs.JsonGrammar.{HasHex, no_digit, a_digit, other, below, high, HasLow, low, HasString, close, plain, short, unit, pair, HasDigits, no_more, digit, HasSome, some, HasExponent, no_exponent, unsigned, signed, HasFraction, no_fraction, fraction, HasUnsigned, zero, whole, positive, negative, HasSpace, no_space, space, HasValue, a_true, a_false, a_null, number, string, empty_array, array, empty_object, object, HasElement, element, HasItems, last_item, more_items, HasMember, member, HasMembers, last_member, more_members, IsElement}
 use Rattle.tmpl_formats.specs.computed.JsonBytes.{is_white, is_plain, is_short_escape, hex_value}
-use Rattle.tmpl_formats.specs.computed.Json.{sign_of, after, at_value, at_item, at_key, at_member, at_colon, at_end, closed, at_text, next, at_escape, is_low, at_literal, after_minus, after_power, after_fraction, after_zero, after_whole, first_digit, after_exponent, at_number, Config, head_of, tail_of, applied, step, ends, ends_value, is_empty, json_mistake}
+use Rattle.tmpl_formats.specs.computed.Json.{sign_of, after, at_value, at_item, at_key, at_member, at_colon, at_end, closed, at_text, next, at_escape, at_literal, after_zero, first_digit, at_number, Config, head_of, tail_of, applied, step, ends, ends_value, is_empty, json_mistake}
 use Rattle.tmpl_formats.specs.computed.Machine.{mistake, after_step}
 use Rattle.tmpl_formats.specs.declared.json_text.Action.{Action}
 use Rattle.tmpl_formats.specs.declared.json_text.Action.TheVariants as action
@@ -111,10 +111,6 @@ data Behind : List Open → List ℕ → Type 0 where
   object_ends : {s : List Open} {text rest : List ℕ} → HasSpace text (125 ∷ rest) → Behind s rest → Behind (open_.Object ∷ s) text
   object_goes : {s : List Open} {text more rest : List ℕ} → HasSpace text (44 ∷ more) → HasMembers more (125 ∷ rest) → Behind s rest → Behind (open_.Object ∷ s) text
 
--- one thing and then another
-data Then (P : List ℕ → List ℕ → Type 0) (Q : List ℕ → Type 0) : List ℕ → Type 0 where
-  both : {text rest : List ℕ} → P text rest → Q rest → Then P Q text
-
 -- before a value
 data ValueThen (s : List Open) : List ℕ → Type 0 where
   value_then : {text value rest : List ℕ} → HasSpace text value → HasValue value rest → Behind s rest → ValueThen s text
@@ -162,16 +158,20 @@ EscapeThen r escape.PairUnit s text = PairThen r s (92 ∷ text)
 EscapeThen r escape.Low s text = PairThen r s (92 ∷ 117 ∷ text)
 EscapeThen r escape.LowSecond s text = (b : ℕ) → hex_value b ≡ 13 → PairThen r s (92 ∷ 117 ∷ b ∷ text)
 
-data LiteralThen (s : List Open) : Literal → List ℕ → Type 0 where
-  rue : {rest : List ℕ} → Behind s rest → LiteralThen s literal.Rue (114 ∷ 117 ∷ 101 ∷ rest)
-  ue : {rest : List ℕ} → Behind s rest → LiteralThen s literal.Ue (117 ∷ 101 ∷ rest)
-  the_e : {rest : List ℕ} → Behind s rest → LiteralThen s literal.E (101 ∷ rest)
-  alse : {rest : List ℕ} → Behind s rest → LiteralThen s literal.Alse (97 ∷ 108 ∷ 115 ∷ 101 ∷ rest)
-  lse : {rest : List ℕ} → Behind s rest → LiteralThen s literal.Lse (108 ∷ 115 ∷ 101 ∷ rest)
-  se : {rest : List ℕ} → Behind s rest → LiteralThen s literal.Se (115 ∷ 101 ∷ rest)
-  ull : {rest : List ℕ} → Behind s rest → LiteralThen s literal.Ull (117 ∷ 108 ∷ 108 ∷ rest)
-  ll : {rest : List ℕ} → Behind s rest → LiteralThen s literal.Ll (108 ∷ 108 ∷ rest)
-  the_l : {rest : List ℕ} → Behind s rest → LiteralThen s literal.L (108 ∷ rest)
+-- the letters of a literal that are left
+abbrev letters : Literal → List ℕ
+letters literal.Rue = 114 ∷ 117 ∷ 101 ∷ []
+letters literal.Ue = 117 ∷ 101 ∷ []
+letters literal.E = 101 ∷ []
+letters literal.Alse = 97 ∷ 108 ∷ 115 ∷ 101 ∷ []
+letters literal.Lse = 108 ∷ 115 ∷ 101 ∷ []
+letters literal.Se = 115 ∷ 101 ∷ []
+letters literal.Ull = 117 ∷ 108 ∷ 108 ∷ []
+letters literal.Ll = 108 ∷ 108 ∷ []
+letters literal.L = 108 ∷ []
+
+data LettersThen (s : List Open) (word : List ℕ) : List ℕ → Type 0 where
+  letters_then : {rest : List ℕ} → Behind s rest → LettersThen s word (word ++ rest)
 
 abbrev NumberThen : Number → List Open → List ℕ → Type 0
 NumberThen num.Minus s text = Then HasUnsigned (Behind s) text
@@ -203,7 +203,7 @@ Goes at.Colon s text = ColonThen s text
 Goes at.End s text = Behind s text
 Goes (at.Text r) s text = TextThen r s text
 Goes (at.Escape r x) s text = EscapeThen r x s text
-Goes (at.Literal l) s text = LiteralThen s l text
+Goes (at.Literal l) s text = LettersThen s (letters l) text
 Goes (at.Number n) s text = NumberThen n s text
 
 -- ---- space before what is left
@@ -324,14 +324,14 @@ zero_value s text (both n b) = value_then no_space (number (positive (zero n))) 
 whole_value : (s : List Open) (b : ℕ) (text : List ℕ) → is_ascii_digit b ≡ true → b ≢ 48 → NumberThen num.Whole s text → ValueThen s (b ∷ text)
 whole_value s b text d n (both m (both f q)) = value_then no_space (number (positive (whole d n m f))) q
 
-true_value : (s : List Open) (text : List ℕ) → LiteralThen s literal.Rue text → ValueThen s (116 ∷ text)
-true_value s _ (rue q) = value_then no_space a_true q
+true_value : (s : List Open) (text : List ℕ) → LettersThen s (letters literal.Rue) text → ValueThen s (116 ∷ text)
+true_value s _ (letters_then q) = value_then no_space a_true q
 
-false_value : (s : List Open) (text : List ℕ) → LiteralThen s literal.Alse text → ValueThen s (102 ∷ text)
-false_value s _ (alse q) = value_then no_space a_false q
+false_value : (s : List Open) (text : List ℕ) → LettersThen s (letters literal.Alse) text → ValueThen s (102 ∷ text)
+false_value s _ (letters_then q) = value_then no_space a_false q
 
-null_value : (s : List Open) (text : List ℕ) → LiteralThen s literal.Ull text → ValueThen s (110 ∷ text)
-null_value s _ (ull q) = value_then no_space a_null q
+null_value : (s : List Open) (text : List ℕ) → LettersThen s (letters literal.Ull) text → ValueThen s (110 ∷ text)
+null_value s _ (letters_then q) = value_then no_space a_null q
 
 value_goes : (x : Sign) (s : List Open) (b : ℕ) (text : List ℕ) → sign_of b ≡ x → Accepts s (at_value x) text → Known text → ValueThen s (b ∷ text)
 value_goes sign.White s b text e h known = value_space s b text (whites b (ap white_sign e)) (on at.Value s text known h)
@@ -403,7 +403,7 @@ below_of m n = grind (arith, common_steps)
 from_of : (m n : ℕ) → nat_lt m n ≡ false → n ≤ m
 from_of m n = grind (arith, common_steps)
 
-low_of : (m : ℕ) → is_low m ≡ true → (12 ≤ m) × (m < 16)
+low_of : (m : ℕ) → (nat_le 12 m && nat_lt m 16) ≡ true → (12 ≤ m) × (m < 16)
 low_of m = grind (arith, common_steps)
 
 hex_more : (Q : List ℕ → Type 0) (count b : ℕ) (text : List ℕ) → hex_value b < 16 → Then (HasHex count) Q text → Then (HasHex (count + 1)) Q (b ∷ text)
@@ -469,70 +469,36 @@ escape_goes escape.Hex2 r s b text h known = let found = hex_goes (at.Escape r e
 escape_goes escape.Hex1 r s b text h known = let found = hex_goes (at.Text r) s b text h known in hex_last (TextThen r s) b text found.0 found.1
 escape_goes escape.High2 r s b text h known = let found = hex_goes (at.Escape r escape.High1) s b text h known in hex_more (PairThen r s) 1 b text found.0 found.1
 escape_goes escape.High1 r s b text h known = let found = hex_goes (at.Escape r escape.Pair) s b text h known in hex_last (PairThen r s) b text found.0 found.1
-escape_goes escape.Pair r s b text h known =
-    let found = given_goes (at.Escape r escape.PairUnit) s b 92 text h known in
-    rw (← found.0) found.1
-escape_goes escape.PairUnit r s b text h known =
-    let found = given_goes (at.Escape r escape.Low) s b 117 text h known in
-    rw (← found.0) found.1
+escape_goes escape.Pair r s b text h known = let found = given_goes (at.Escape r escape.PairUnit) s b 92 text h known in rw (← found.0) found.1
+escape_goes escape.PairUnit r s b text h known = let found = given_goes (at.Escape r escape.Low) s b 117 text h known in rw (← found.0) found.1
 escape_goes escape.Low r s b text h known =
     let found = on_if (at.Escape r escape.LowSecond) s (hex_value b == 13) text known h in found.1 b (equal_of (hex_value b) 13 found.0)
 escape_goes escape.LowSecond r s b text h known =
     λ a d.
-    let found = on_if (at.Escape r escape.Hex2) s (is_low (hex_value b)) text known h in
+    let found = on_if (at.Escape r escape.Hex2) s (nat_le 12 (hex_value b) && nat_lt (hex_value b) 16) text known h in
     let bounds = low_of (hex_value b) found.0 in pair_low r s a b text d bounds.0 bounds.1 found.1
 
 -- ---- literals
 
-literal_goes : (x : Literal) (s : List Open) (b : ℕ) (text : List ℕ) → Accepts s (at_literal x b) text → Known text → LiteralThen s x (b ∷ text)
-literal_goes literal.Rue s b text h known =
-    let found = given_goes (at.Literal literal.Ue) s b 114 text h known in
-    rw (← found.0) (rue_of found.1)
-  where
-    rue_of : {s : List Open} {text : List ℕ} → LiteralThen s literal.Ue text → LiteralThen s literal.Rue (114 ∷ text)
-    rue_of (ue q) = rue q
-literal_goes literal.Ue s b text h known =
-    let found = given_goes (at.Literal literal.E) s b 117 text h known in
-    rw (← found.0) (ue_of found.1)
-  where
-    ue_of : {s : List Open} {text : List ℕ} → LiteralThen s literal.E text → LiteralThen s literal.Ue (117 ∷ text)
-    ue_of (the_e q) = ue q
-literal_goes literal.E s b text h known =
-    let found = given_goes at.End s b 101 text h known in
-    rw (← found.0) (the_e found.1)
-literal_goes literal.Alse s b text h known =
-    let found = given_goes (at.Literal literal.Lse) s b 97 text h known in
-    rw (← found.0) (alse_of found.1)
-  where
-    alse_of : {s : List Open} {text : List ℕ} → LiteralThen s literal.Lse text → LiteralThen s literal.Alse (97 ∷ text)
-    alse_of (lse q) = alse q
-literal_goes literal.Lse s b text h known =
-    let found = given_goes (at.Literal literal.Se) s b 108 text h known in
-    rw (← found.0) (lse_of found.1)
-  where
-    lse_of : {s : List Open} {text : List ℕ} → LiteralThen s literal.Se text → LiteralThen s literal.Lse (108 ∷ text)
-    lse_of (se q) = lse q
-literal_goes literal.Se s b text h known =
-    let found = given_goes (at.Literal literal.E) s b 115 text h known in
-    rw (← found.0) (se_of found.1)
-  where
-    se_of : {s : List Open} {text : List ℕ} → LiteralThen s literal.E text → LiteralThen s literal.Se (115 ∷ text)
-    se_of (the_e q) = se q
-literal_goes literal.Ull s b text h known =
-    let found = given_goes (at.Literal literal.Ll) s b 117 text h known in
-    rw (← found.0) (ull_of found.1)
-  where
-    ull_of : {s : List Open} {text : List ℕ} → LiteralThen s literal.Ll text → LiteralThen s literal.Ull (117 ∷ text)
-    ull_of (ll q) = ull q
-literal_goes literal.Ll s b text h known =
-    let found = given_goes (at.Literal literal.L) s b 108 text h known in
-    rw (← found.0) (ll_of found.1)
-  where
-    ll_of : {s : List Open} {text : List ℕ} → LiteralThen s literal.L text → LiteralThen s literal.Ll (108 ∷ text)
-    ll_of (the_l q) = ll q
-literal_goes literal.L s b text h known =
-    let found = given_goes at.End s b 108 text h known in
-    rw (← found.0) (the_l found.1)
+letter : (s : List Open) (b n : ℕ) (word text : List ℕ) → n ≡ b → LettersThen s word text → LettersThen s (n ∷ word) (b ∷ text)
+letter s b n word _ e (letters_then q) = rw (← e) (letters_then q)
+
+letter_goes : (x : Literal) (s : List Open) (b n : ℕ) (text : List ℕ) → Accepts s (next (b == n) (at.Literal x)) text → Known text → LettersThen s (n ∷ letters x) (b ∷ text)
+letter_goes x s b n text h known = let found = given_goes (at.Literal x) s b n text h known in letter s b n (letters x) text found.0 found.1
+
+last_letter : (s : List Open) (b n : ℕ) (text : List ℕ) → Accepts s (next (b == n) at.End) text → Known text → LettersThen s (n ∷ []) (b ∷ text)
+last_letter s b n text h known = let found = given_goes at.End s b n text h known in rw (← found.0) (letters_then found.1)
+
+literal_goes : (x : Literal) (s : List Open) (b : ℕ) (text : List ℕ) → Accepts s (at_literal x b) text → Known text → LettersThen s (letters x) (b ∷ text)
+literal_goes literal.Rue s b text h known = letter_goes literal.Ue s b 114 text h known
+literal_goes literal.Ue s b text h known = letter_goes literal.E s b 117 text h known
+literal_goes literal.Alse s b text h known = letter_goes literal.Lse s b 97 text h known
+literal_goes literal.Lse s b text h known = letter_goes literal.Se s b 108 text h known
+literal_goes literal.Se s b text h known = letter_goes literal.E s b 115 text h known
+literal_goes literal.Ull s b text h known = letter_goes literal.Ll s b 117 text h known
+literal_goes literal.Ll s b text h known = letter_goes literal.L s b 108 text h known
+literal_goes literal.E s b text h known = last_letter s b 101 text h known
+literal_goes literal.L s b text h known = last_letter s b 108 text h known
 
 -- ---- numbers
 
@@ -562,12 +528,12 @@ more_digits x Q b text i e q = digit_more Q b text (digits b (ap digit_sign e �
 some_digits : (x : Sign) (Q : List ℕ → Type 0) (b : ℕ) (text : List ℕ) → digit_sign x ≡ true → sign_of b ≡ x → Then HasDigits Q text → Then HasSome Q (b ∷ text)
 some_digits x Q b text i e q = digit_some Q b text (digits b (ap digit_sign e ∙ i)) q
 
-power_goes : (x : Sign) (s : List Open) (b : ℕ) (text : List ℕ) → sign_of b ≡ x → Accepts s (after_power (head_of s) x) text → Known text → NumberThen num.Power s (b ∷ text)
+power_goes : (x : Sign) (s : List Open) (b : ℕ) (text : List ℕ) → sign_of b ≡ x → Accepts s (at_number num.Power (head_of s) x) text → Known text → NumberThen num.Power s (b ∷ text)
 power_goes sign.Zero s b text e h known = more_digits sign.Zero (Behind s) b text refl e (on (at.Number num.Power) s text known h)
 power_goes sign.Digit s b text e h known = more_digits sign.Digit (Behind s) b text refl e (on (at.Number num.Power) s text known h)
 power_goes x s b text e h known = both no_more (end_goes x s b text e h known)
 
-fraction_goes : (x : Sign) (s : List Open) (b : ℕ) (text : List ℕ) → sign_of b ≡ x → Accepts s (after_fraction (head_of s) x) text → Known text
+fraction_goes : (x : Sign) (s : List Open) (b : ℕ) (text : List ℕ) → sign_of b ≡ x → Accepts s (at_number num.Fraction (head_of s) x) text → Known text
     → NumberThen num.Fraction s (b ∷ text)
 fraction_goes sign.Zero s b text e h known = more_digits sign.Zero (Then HasExponent (Behind s)) b text refl e (on (at.Number num.Fraction) s text known h)
 fraction_goes sign.Digit s b text e h known = more_digits sign.Digit (Then HasExponent (Behind s)) b text refl e (on (at.Number num.Fraction) s text known h)
@@ -579,7 +545,7 @@ zero_goes sign.Dot s b text e h known = rw (byte_of sign.Dot b e refl) (fraction
 zero_goes sign.Exponent s b text e h known = no_fraction_of s (b ∷ text) (on (at.Number num.Exponent) s text known h b (exponents b (ap exponent_sign e)))
 zero_goes x s b text e h known = both (no_fraction no_exponent) (end_goes x s b text e h known)
 
-whole_goes : (x : Sign) (s : List Open) (b : ℕ) (text : List ℕ) → sign_of b ≡ x → Accepts s (after_whole (head_of s) x) text → Known text → NumberThen num.Whole s (b ∷ text)
+whole_goes : (x : Sign) (s : List Open) (b : ℕ) (text : List ℕ) → sign_of b ≡ x → Accepts s (at_number num.Whole (head_of s) x) text → Known text → NumberThen num.Whole s (b ∷ text)
 whole_goes sign.Zero s b text e h known = more_digits sign.Zero (Then HasFraction (Behind s)) b text refl e (on (at.Number num.Whole) s text known h)
 whole_goes sign.Digit s b text e h known = more_digits sign.Digit (Then HasFraction (Behind s)) b text refl e (on (at.Number num.Whole) s text known h)
 whole_goes x s b text e h known = both no_more (zero_goes x s b text e h known)
@@ -590,7 +556,7 @@ minus_zero s text (both f q) = both (zero f) q
 minus_whole : (s : List Open) (b : ℕ) (text : List ℕ) → is_ascii_digit b ≡ true → b ≢ 48 → NumberThen num.Whole s text → NumberThen num.Minus s (b ∷ text)
 minus_whole s b text d n (both m (both f q)) = both (whole d n m f) q
 
-minus_goes : (x : Sign) (s : List Open) (b : ℕ) (text : List ℕ) → sign_of b ≡ x → Accepts s (after_minus x) text → Known text → NumberThen num.Minus s (b ∷ text)
+minus_goes : (x : Sign) (s : List Open) (b : ℕ) (text : List ℕ) → sign_of b ≡ x → Accepts s (at_number num.Minus (head_of s) x) text → Known text → NumberThen num.Minus s (b ∷ text)
 minus_goes sign.Zero s b text e h known = rw (byte_of sign.Zero b e refl) (minus_zero s text (on (at.Number num.Zero) s text known h))
 minus_goes sign.Digit s b text e h known =
     minus_whole s b text (digits b (ap digit_sign e)) (nonzeros b (ap nonzero_sign e)) (on (at.Number num.Whole) s text known h)
@@ -602,7 +568,7 @@ first_goes n Q sign.Zero s b text e f h known = some_digits sign.Zero Q b text r
 first_goes n Q sign.Digit s b text e f h known = some_digits sign.Digit Q b text refl e (f (on (at.Number n) s text known h))
 first_goes n Q _ s b text e f h known = cc
 
-exponent_goes : (x : Sign) (s : List Open) (b : ℕ) (text : List ℕ) → sign_of b ≡ x → Accepts s (after_exponent x) text → Known text → NumberThen num.Exponent s (b ∷ text)
+exponent_goes : (x : Sign) (s : List Open) (b : ℕ) (text : List ℕ) → sign_of b ≡ x → Accepts s (at_number num.Exponent (head_of s) x) text → Known text → NumberThen num.Exponent s (b ∷ text)
 exponent_goes sign.Plus s b text e h known = λ a i. exponent_signed s a b text i (inl (byte_of sign.Plus b e refl)) (on (at.Number num.Sign) s text known h)
 exponent_goes sign.Minus s b text e h known = λ a i. exponent_signed s a b text i (inr (byte_of sign.Minus b e refl)) (on (at.Number num.Sign) s text known h)
 exponent_goes x s b text e h known = λ a i. exponent_of s a (b ∷ text) i (first_goes num.Power (Behind s) x s b text e (λ q. q) h known)

@@ -5,6 +5,10 @@ use Rattle.std.proofs.Math.Seq.{drop-cons, drop-length}
 use Rattle.std.specs.List.{list_all}
 use Rattle.tmpl_formats.specs.computed.Machine.{after_step, mistake}
 
+-- one thing and then another
+pub data Then (P : List ℕ → List ℕ → Type 0) (Q : List ℕ → Type 0) : List ℕ → Type 0 where
+  both : {text rest : List ℕ} → P text rest → Q rest → Then P Q text
+
 -- a step that leads to an accepted rest
 went_on : {C : Type 0} (r : Option ℕ) (c : C) → after_step (λ (x : C). r) (Some c) ≡ None → r ≡ None
 went_on None c h = refl

@@ -3,9 +3,9 @@ use Rattle.std.proofs.Common.{◌≡◌, ◌≢◌, inl, inr, ℕ, suc, ◌+◌,
 use Rattle.std.proofs.lemmas.Grind.{common_steps}
 use Rattle.std.specs.List.{list_all}
 use Rattle.std.specs.Prelude.{nat_lt, not}
-use Rattle.tmpl_formats.proofs.MachineLemmas.{went, passes-cons}
+use Rattle.tmpl_formats.proofs.MachineLemmas.{went, passes-cons, Then, both}
 use Rattle.tmpl_formats.specs.Nginx.{is_gap, is_inner, is_first, is_comment, HasComment, newline, plain, HasBraces, no_brace, a_brace, HasInner, no_more, inner, escaped, dollar, HasQuoted, close, inside, inside_escaped, IsQuote, HasWord, bare, bare_escaped, bare_dollar, quoted, parenthesis, HasTail, ends as tail_ends, gap, HasMore, no_word, space, comment, word, HasBody, body_end, body_space, body_comment, last_comment, simple, block, IsNginx}
-use Rattle.tmpl_formats.specs.computed.Nginx.{sign_of, config_at, to, opened, at_word, at_start, at_tail, at_gap, in_word, after_dollar, unless_null, in_double, in_single, after_quote, in_comment, after_sign, step, ends, ends_at, nginx_mistake}
+use Rattle.tmpl_formats.specs.computed.Nginx.{sign_of, config_at, to, opened, at_word, at_tail, in_word, unless_null, after_sign, step, ends, ends_at, nginx_mistake}
 use Rattle.tmpl_formats.specs.computed.Machine.{mistake, after_step}
 use Rattle.tmpl_formats.specs.declared.nginx.Control.{Control}
 use Rattle.tmpl_formats.specs.declared.nginx.Control.TheVariants as at
@@ -107,10 +107,6 @@ singles b = grind (arith, common_steps)
 data BodyThen : ℕ → List ℕ → Type 0 where
   whole : {text : List ℕ} → HasBody text [] → BodyThen 0 text
   within : {depth : ℕ} {text more : List ℕ} → HasBody text (125 ∷ more) → BodyThen depth more → BodyThen (suc depth) text
-
--- one thing and then another
-data Then (P : List ℕ → List ℕ → Type 0) (Q : List ℕ → Type 0) : List ℕ → Type 0 where
-  both : {text rest : List ℕ} → P text rest → Q rest → Then P Q text
 
 -- at the end of a directive's words
 data Stop (depth : ℕ) : List ℕ → Type 0 where
@@ -277,7 +273,7 @@ word_goes _ depth b text e h known = cc
 start_space : (x : Sign) (depth b : ℕ) (text : List ℕ) → sign_of b ≡ x → gap_sign x ≡ true → BodyThen depth text → BodyThen depth (b ∷ text)
 start_space x depth b text e i q = body_map depth text (b ∷ text) (λ rest p. body_space (gaps b (ap gap_sign e ∙ i)) p) q
 
-start_goes : (x : Sign) (depth b : ℕ) (text : List ℕ) → sign_of b ≡ x → Accepts (at_start depth x) text → Known text → BodyThen depth (b ∷ text)
+start_goes : (x : Sign) (depth b : ℕ) (text : List ℕ) → sign_of b ≡ x → Accepts (after_sign at.Start depth x) text → Known text → BodyThen depth (b ∷ text)
 start_goes sign.Newline depth b text e h known = start_space sign.Newline depth b text e refl (on at.Start depth text known h)
 start_goes sign.Gap depth b text e h known = start_space sign.Gap depth b text e refl (on at.Start depth text known h)
 start_goes sign.Close depth b text e h known = rw (byte_of sign.Close b e refl) (on_close (depth == 0) depth text refl known h)
@@ -298,7 +294,7 @@ tail_goes sign.Semicolon depth b text e h known = both tail_ends (semicolon_stop
 tail_goes sign.Open depth b text e h known = both tail_ends (brace_stops depth b text e h known)
 tail_goes _ depth b text e h known = cc
 
-gap_goes : (x : Sign) (depth b : ℕ) (text : List ℕ) → sign_of b ≡ x → Accepts (at_gap depth x) text → Known text → MoreThen depth (b ∷ text)
+gap_goes : (x : Sign) (depth b : ℕ) (text : List ℕ) → sign_of b ≡ x → Accepts (after_sign at.Gap depth x) text → Known text → MoreThen depth (b ∷ text)
 gap_goes sign.Newline depth b text e h known = more_space depth b text (gaps b (ap gap_sign e)) (on at.Gap depth text known h)
 gap_goes sign.Gap depth b text e h known = more_space depth b text (gaps b (ap gap_sign e)) (on at.Gap depth text known h)
 gap_goes sign.Semicolon depth b text e h known = both no_word (semicolon_stops depth b text e h known)
@@ -316,7 +312,7 @@ inner_goes sign.Backslash depth b text e h known = rw (byte_of sign.Backslash b 
 inner_goes sign.Dollar depth b text e h known = rw (byte_of sign.Dollar b e refl) (inner_dollar depth text (on at.Dollar depth text known h))
 inner_goes _ depth b text e h known = inner_more depth b text (inners b (ap inner_sign e)) (on at.Word depth text known h)
 
-dollar_goes : (x : Sign) (depth b : ℕ) (text : List ℕ) → sign_of b ≡ x → Accepts (after_dollar depth x) text → Known text → Then HasBraces (InnerThen depth) (b ∷ text)
+dollar_goes : (x : Sign) (depth b : ℕ) (text : List ℕ) → sign_of b ≡ x → Accepts (after_sign at.Dollar depth x) text → Known text → Then HasBraces (InnerThen depth) (b ∷ text)
 dollar_goes sign.Open depth b text e h known = rw (byte_of sign.Open b e refl) (braces_more depth text (on at.Dollar depth text known h))
 dollar_goes x depth b text e h known = both no_brace (inner_goes x depth b text e h known)
 
@@ -325,29 +321,29 @@ escape_goes : (x : Sign) (q : Control) (depth b : ℕ) (text : List ℕ) → sig
 escape_goes sign.Null q depth b text e h known = cc
 escape_goes _ q depth b text e h known = escaped_then (somes b (ap some_sign e)) (on q depth text known h)
 
-double_goes : (x : Sign) (depth b : ℕ) (text : List ℕ) → sign_of b ≡ x → Accepts (in_double depth x) text → Known text → QuotedThen 34 depth (b ∷ text)
+double_goes : (x : Sign) (depth b : ℕ) (text : List ℕ) → sign_of b ≡ x → Accepts (after_sign at.Double depth x) text → Known text → QuotedThen 34 depth (b ∷ text)
 double_goes sign.Null depth b text e h known = cc
 double_goes sign.Double depth b text e h known = rw (byte_of sign.Double b e refl) (both close (on at.Closed depth text known h))
 double_goes sign.Backslash depth b text e h known = rw (byte_of sign.Backslash b e refl) (quoted_escaped 34 depth text (on at.DoubleEscape depth text known h))
 double_goes _ depth b text e h known = quoted_more 34 depth b text (doubles b (ap double_sign e)) (on at.Double depth text known h)
 
-single_goes : (x : Sign) (depth b : ℕ) (text : List ℕ) → sign_of b ≡ x → Accepts (in_single depth x) text → Known text → QuotedThen 39 depth (b ∷ text)
+single_goes : (x : Sign) (depth b : ℕ) (text : List ℕ) → sign_of b ≡ x → Accepts (after_sign at.Single depth x) text → Known text → QuotedThen 39 depth (b ∷ text)
 single_goes sign.Null depth b text e h known = cc
 single_goes sign.Single depth b text e h known = rw (byte_of sign.Single b e refl) (both close (on at.Closed depth text known h))
 single_goes sign.Backslash depth b text e h known = rw (byte_of sign.Backslash b e refl) (quoted_escaped 39 depth text (on at.SingleEscape depth text known h))
 single_goes _ depth b text e h known = quoted_more 39 depth b text (singles b (ap single_sign e)) (on at.Single depth text known h)
 
-quote_goes : (x : Sign) (depth b : ℕ) (text : List ℕ) → sign_of b ≡ x → Accepts (after_quote depth x) text → Known text → QuoteThen depth (b ∷ text)
+quote_goes : (x : Sign) (depth b : ℕ) (text : List ℕ) → sign_of b ≡ x → Accepts (after_sign at.Closed depth x) text → Known text → QuoteThen depth (b ∷ text)
 quote_goes sign.Parenthesis depth b text e h known = rw (byte_of sign.Parenthesis b e refl) (parenthesis_then (on at.Word depth text known h))
 quote_goes x depth b text e h known = tail_then (tail_goes x depth b text e h known)
 
-start_comment_goes : (x : Sign) (depth b : ℕ) (text : List ℕ) → sign_of b ≡ x → Accepts (in_comment at.StartComment at.Start depth x) text → Known text
+start_comment_goes : (x : Sign) (depth b : ℕ) (text : List ℕ) → sign_of b ≡ x → Accepts (after_sign at.StartComment depth x) text → Known text
     → CommentThen depth (b ∷ text)
 start_comment_goes sign.Null depth b text e h known = cc
 start_comment_goes sign.Newline depth b text e h known = rw (byte_of sign.Newline b e refl) (comment_then newline (on at.Start depth text known h))
 start_comment_goes _ depth b text e h known = start_comment_more depth b text (comments b (ap comment_sign e)) (on at.StartComment depth text known h)
 
-gap_comment_goes : (x : Sign) (depth b : ℕ) (text : List ℕ) → sign_of b ≡ x → Accepts (in_comment at.GapComment at.Gap depth x) text → Known text
+gap_comment_goes : (x : Sign) (depth b : ℕ) (text : List ℕ) → sign_of b ≡ x → Accepts (after_sign at.GapComment depth x) text → Known text
     → Then HasComment (MoreThen depth) (b ∷ text)
 gap_comment_goes sign.Null depth b text e h known = cc
 gap_comment_goes sign.Newline depth b text e h known = rw (byte_of sign.Newline b e refl) (both newline (on at.Gap depth text known h))
