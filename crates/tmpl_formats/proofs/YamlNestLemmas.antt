@@ -1,9 +1,10 @@
 -- Tokens that the nest takes are documents.
 use Rattle.std.proofs.Common.{◌≡◌, ◌⊎◌, inl, inr, ◌≤◌, ℕ, suc, ◌==◌, Bool, true, false, cond, ◌&&◌, List, [], ◌∷◌, ◌++◌, Option, Some, None, arith, refl, sym, subst, nat_lt, nat_le, zero-le}
 use Rattle.std.proofs.lemmas.Grind.{common_steps}
-use Rattle.std.specs.Prelude.{option_map, option_and_then}
+use Rattle.std.specs.Bool.{then_some}
+use Rattle.std.specs.Prelude.{not, option_map, option_and_then}
 use Rattle.tmpl_formats.specs.Yaml.{HasFlow, flow_scalar, flow_open, HasEntry, element, member, HasInside, closed, last_entry, more_entries, HasNode, nothing, a_scalar, brackets, a_map, a_sequence, HasKeys, no_key, a_key, HasValue, beyond, level, HasItems, no_item, an_item, IsDocuments, last_document, more_documents}
-use Rattle.tmpl_formats.specs.computed.YamlNest.{Nest, nest_at, head_of, push_if, expect_if, open_if, is_value, is_nothing, holds, holds_in, holds_at, item, item_at, key, key_at, close_if, close as close_change, comma as comma_change, marker as marker_change, applied, taken, is_over, unwound_from, settled, may_begin, begun, taken_item, happened}
+use Rattle.tmpl_formats.specs.computed.YamlNest.{Nest, nest_at, head_of, is_value, is_nothing, holds, holds_in, item, key, change_of, applied, taken, is_over, unwound_from, settled, may_begin, begun, taken_item, happened}
 use Rattle.tmpl_formats.specs.declared.yaml_nest.Bracket.{Bracket}
 use Rattle.tmpl_formats.specs.declared.yaml_nest.Bracket.TheVariants as bracket
 use Rattle.tmpl_formats.specs.declared.yaml_nest.Change.{Change}
@@ -64,18 +65,9 @@ Fits (Some n) ts = Left n ts
 abbrev Changed : Option Change → Nest → List Token → Type 0
 Changed r n ts = Fits (option_map (λ x. applied x n) r) ts
 
-push_fits : (t : Bool) (l : Level) (e : Expects) (ls : List Level) (ts : List Token) → Changed (push_if t l) (nest_at e ls []) ts → (t ≡ true) × Waiting (l ∷ ls) [] ts
-push_fits true l e ls ts p = (refl, p)
-push_fits false l e ls ts p = absurd p
-
-expect_fits : (t : Bool) (f e : Expects) (ls : List Level) (bs : List Bracket) (ts : List Token) → Changed (expect_if t f) (nest_at e ls bs) ts → (t ≡ true) × LeftAt f ls bs ts
-expect_fits true f e ls bs ts p = (refl, p)
-expect_fits false f e ls bs ts p = absurd p
-
-open_fits : (t : Bool) (k : Bracket) (e : Expects) (ls : List Level) (bs : List Bracket) (ts : List Token) → Changed (open_if t k) (nest_at e ls bs) ts
-    → (t ≡ true) × Then (HasInside k) (Behind ls bs) ts
-open_fits true k e ls bs ts p = (refl, p)
-open_fits false k e ls bs ts p = absurd p
+changes : (t : Bool) (x : Change) (n : Nest) (ts : List Token) → Changed (then_some t x) n ts → (t ≡ true) × Left (applied x n) ts
+changes true x n ts p = (refl, p)
+changes false x n ts p = absurd p
 
 -- nothing stands for a value that is wanted
 null_value : (e : Expects) (ls : List Level) (ts : List Token) → BehindLevels ls ts → LeftAt e ls [] ts
@@ -145,21 +137,21 @@ item_fits c expects.Value [] ts p = sequence_node [] c ts tt p
 item_fits c expects.Entry [] ts p = absurd p
 item_fits c expects.Nothing [] ts p = absurd p
 item_fits c expects.Value (lev.Map d ∷ ls) ts p =
-    let q = push_fits (nat_le d c) (lev.Sequence c) expects.Value (lev.Map d ∷ ls) ts p in item_under_map ls d c ts (order_of d c (at_most d c q.0)) q.1
+    let q = changes (nat_le d c) (change.Push (lev.Sequence c)) (nest_at expects.Value (lev.Map d ∷ ls) []) ts p in item_under_map ls d c ts (order_of d c (at_most d c q.0)) q.1
 item_fits c expects.Entry (lev.Map d ∷ ls) ts p = absurd p
 item_fits c expects.Nothing (lev.Map d ∷ ls) ts p = absurd p
 item_fits c e (lev.Sequence d ∷ ls) ts p = in_sequence_at (d == c) refl p
   where
-    push_at : (e : Expects) → Changed (push_if (is_value e && nat_lt d c) (lev.Sequence c)) (nest_at e (lev.Sequence d ∷ ls) []) ts
+    push_at : (e : Expects) → Changed (then_some (is_value e && nat_lt d c) (change.Push (lev.Sequence c))) (nest_at e (lev.Sequence d ∷ ls) []) ts
         → LeftAt e (lev.Sequence d ∷ ls) [] (token.Item c ∷ ts)
     push_at expects.Value p =
-        let q = push_fits (nat_lt d c) (lev.Sequence c) expects.Value (lev.Sequence d ∷ ls) ts p in
+        let q = changes (nat_lt d c) (change.Push (lev.Sequence c)) (nest_at expects.Value (lev.Sequence d ∷ ls) []) ts p in
         sequence_node (lev.Sequence d ∷ ls) c ts (less d c q.0) q.1
     push_at expects.Entry p = absurd p
     push_at expects.Nothing p = absurd p
 
     in_sequence_at : (t : Bool) → (d == c) ≡ t
-        → Changed (cond t (Some (change.Expect expects.Value)) (push_if (is_value e && nat_lt d c) (lev.Sequence c))) (nest_at e (lev.Sequence d ∷ ls) []) ts
+        → Changed (cond t (Some (change.Expect expects.Value)) (then_some (is_value e && nat_lt d c) (change.Push (lev.Sequence c)))) (nest_at e (lev.Sequence d ∷ ls) []) ts
         → LeftAt e (lev.Sequence d ∷ ls) [] (token.Item c ∷ ts)
     in_sequence_at true same p = rw (← same_of d c same) (null_value e (lev.Sequence d ∷ ls) (token.Item d ∷ ts) (next_item ls d ts p))
     in_sequence_at false same p = push_at e p
@@ -171,18 +163,18 @@ key_fits c expects.Value [] ts p = map_node [] c ts tt p
 key_fits c expects.Entry [] ts p = absurd p
 key_fits c expects.Nothing [] ts p = absurd p
 key_fits c expects.Value (lev.Sequence d ∷ ls) ts p =
-    let q = push_fits (nat_lt d c) (lev.Map c) expects.Value (lev.Sequence d ∷ ls) ts p in map_node (lev.Sequence d ∷ ls) c ts (less d c q.0) q.1
+    let q = changes (nat_lt d c) (change.Push (lev.Map c)) (nest_at expects.Value (lev.Sequence d ∷ ls) []) ts p in map_node (lev.Sequence d ∷ ls) c ts (less d c q.0) q.1
 key_fits c expects.Entry (lev.Sequence d ∷ ls) ts p = absurd p
 key_fits c expects.Nothing (lev.Sequence d ∷ ls) ts p = absurd p
 key_fits c e (lev.Map d ∷ ls) ts p = in_map_at (d == c) refl p
   where
-    push_at : (e : Expects) → Changed (push_if (is_value e && nat_lt d c) (lev.Map c)) (nest_at e (lev.Map d ∷ ls) []) ts → LeftAt e (lev.Map d ∷ ls) [] (token.Key c ∷ ts)
-    push_at expects.Value p = let q = push_fits (nat_lt d c) (lev.Map c) expects.Value (lev.Map d ∷ ls) ts p in map_node (lev.Map d ∷ ls) c ts (less d c q.0) q.1
+    push_at : (e : Expects) → Changed (then_some (is_value e && nat_lt d c) (change.Push (lev.Map c))) (nest_at e (lev.Map d ∷ ls) []) ts → LeftAt e (lev.Map d ∷ ls) [] (token.Key c ∷ ts)
+    push_at expects.Value p = let q = changes (nat_lt d c) (change.Push (lev.Map c)) (nest_at expects.Value (lev.Map d ∷ ls) []) ts p in map_node (lev.Map d ∷ ls) c ts (less d c q.0) q.1
     push_at expects.Entry p = absurd p
     push_at expects.Nothing p = absurd p
 
     in_map_at : (t : Bool) → (d == c) ≡ t
-        → Changed (cond t (Some (change.Expect expects.Value)) (push_if (is_value e && nat_lt d c) (lev.Map c))) (nest_at e (lev.Map d ∷ ls) []) ts
+        → Changed (cond t (Some (change.Expect expects.Value)) (then_some (is_value e && nat_lt d c) (change.Push (lev.Map c)))) (nest_at e (lev.Map d ∷ ls) []) ts
         → LeftAt e (lev.Map d ∷ ls) [] (token.Key c ∷ ts)
     in_map_at true same p = rw (← same_of d c same) (null_value e (lev.Map d ∷ ls) (token.Key d ∷ ts) (next_key ls d ts p))
     in_map_at false same p = push_at e p
@@ -195,7 +187,7 @@ entry_inside ls k bs ts _ f (goes_on i b) = both (more_entries f i) b
 member_inside : (ls : List Level) (bs : List Bracket) (c : ℕ) (ts : List Token) → Waiting ls (bracket.Map ∷ bs) ts → Inside ls (bracket.Map ∷ bs) (token.Key c ∷ ts)
 member_inside ls bs c ts (both {rest} f b) = entry_inside ls bracket.Map bs (token.Key c ∷ ts) rest (member f) b
 
-key_at_fits : (c : ℕ) (e : Expects) (ls : List Level) (bs : List Bracket) (ts : List Token) → Changed (key_at c e (head_of ls) (head_of bs)) (nest_at e ls bs) ts
+key_at_fits : (c : ℕ) (e : Expects) (ls : List Level) (bs : List Bracket) (ts : List Token) → Changed (change_of (token.Key c) e (head_of ls) (head_of bs)) (nest_at e ls bs) ts
     → LeftAt e ls bs (token.Key c ∷ ts)
 key_at_fits c e ls [] ts p = key_fits c e ls ts p
 key_at_fits c e ls (bracket.List ∷ bs) ts p = absurd p
@@ -203,7 +195,7 @@ key_at_fits c expects.Value ls (bracket.Map ∷ bs) ts p = absurd p
 key_at_fits c expects.Nothing ls (bracket.Map ∷ bs) ts p = absurd p
 key_at_fits c expects.Entry ls (bracket.Map ∷ bs) ts p = member_inside ls bs c ts p
 
-item_at_fits : (c : ℕ) (e : Expects) (ls : List Level) (bs : List Bracket) (ts : List Token) → Changed (item_at c e (head_of ls) (head_of bs)) (nest_at e ls bs) ts
+item_at_fits : (c : ℕ) (e : Expects) (ls : List Level) (bs : List Bracket) (ts : List Token) → Changed (change_of (token.Item c) e (head_of ls) (head_of bs)) (nest_at e ls bs) ts
     → LeftAt e ls bs (token.Item c ∷ ts)
 item_at_fits c e ls [] ts p = item_fits c e ls ts p
 item_at_fits c e ls (k ∷ bs) ts p = absurd p
@@ -236,12 +228,12 @@ levels_behind : (ls : List Level) (ts : List Token) → Behind ls [] ts → Behi
 levels_behind ls ts (no_bracket b) = b
 
 scalar_fits : (c : ℕ) (e : Expects) (ls : List Level) (bs : List Bracket) (ts : List Token)
-    → Changed (expect_if (holds_at c e (head_of ls) (head_of bs)) expects.Nothing) (nest_at e ls bs) ts → LeftAt e ls bs (token.Scalar c ∷ ts)
+    → Changed (change_of (token.Scalar c) e (head_of ls) (head_of bs)) (nest_at e ls bs) ts → LeftAt e ls bs (token.Scalar c ∷ ts)
 scalar_fits c e ls [] ts p =
-    let q = expect_fits (holds c e (head_of ls)) expects.Nothing e ls [] ts p in
+    let q = changes (holds c e (head_of ls)) (change.Expect expects.Nothing) (nest_at e ls []) ts p in
     holds_fits c e ls (token.Scalar c) ts ts q.0 (λ least le. a_scalar le) (levels_behind ls ts q.1)
 scalar_fits c e ls (k ∷ bs) ts p =
-    let q = expect_fits (holds_in e k) expects.Nothing e ls (k ∷ bs) ts p in holds_in_fits e ls k bs (token.Scalar c ∷ ts) ts q.0 flow_scalar q.1
+    let q = changes (holds_in e k) (change.Expect expects.Nothing) (nest_at e ls (k ∷ bs)) ts p in holds_in_fits e ls k bs (token.Scalar c ∷ ts) ts q.0 flow_scalar q.1
 
 open_block : (c : ℕ) (e : Expects) (ls : List Level) (own : Bracket) (ts : List Token) → holds c e (head_of ls) ≡ true → Then (HasInside own) (Behind ls []) ts
     → LeftAt e ls [] (token.Open own c ∷ ts)
@@ -252,25 +244,25 @@ open_inside : (c : ℕ) (e : Expects) (ls : List Level) (k : Bracket) (bs : List
 open_inside c e ls k bs own ts h (both {rest} i b) = holds_in_fits e ls k bs (token.Open own c ∷ ts) rest h (flow_open i) b
 
 opened_fits : (own : Bracket) (c : ℕ) (e : Expects) (ls : List Level) (bs : List Bracket) (ts : List Token)
-    → Changed (open_if (holds_at c e (head_of ls) (head_of bs)) own) (nest_at e ls bs) ts → LeftAt e ls bs (token.Open own c ∷ ts)
-opened_fits own c e ls [] ts p = let q = open_fits (holds c e (head_of ls)) own e ls [] ts p in open_block c e ls own ts q.0 q.1
-opened_fits own c e ls (k ∷ bs) ts p = let q = open_fits (holds_in e k) own e ls (k ∷ bs) ts p in open_inside c e ls k bs own ts q.0 q.1
+    → Changed (change_of (token.Open own c) e (head_of ls) (head_of bs)) (nest_at e ls bs) ts → LeftAt e ls bs (token.Open own c ∷ ts)
+opened_fits own c e ls [] ts p = let q = changes (holds c e (head_of ls)) (change.Open own) (nest_at e ls []) ts p in open_block c e ls own ts q.0 q.1
+opened_fits own c e ls (k ∷ bs) ts p = let q = changes (holds_in e k) (change.Open own) (nest_at e ls (k ∷ bs)) ts p in open_inside c e ls k bs own ts q.0 q.1
 
 -- ---- the end of brackets, a comma, and another document
 
-close_if_fits : (k : Bracket) (e : Expects) (ls : List Level) (bs : List Bracket) (ts : List Token) → Changed (close_if e) (nest_at e ls (k ∷ bs)) ts
+close_if_fits : (k : Bracket) (e : Expects) (ls : List Level) (bs : List Bracket) (ts : List Token) → Changed (then_some (not (is_value e)) change.Close) (nest_at e ls (k ∷ bs)) ts
     → LeftAt e ls (k ∷ bs) (token.Close k ∷ ts)
 close_if_fits k expects.Value ls bs ts p = absurd p
 close_if_fits k expects.Entry ls bs ts p = both closed p
 close_if_fits k expects.Nothing ls bs ts p = closes p
 
-close_fits : (own : Bracket) (e : Expects) (ls : List Level) (bs : List Bracket) (ts : List Token) → Changed (close_change own e (head_of bs)) (nest_at e ls bs) ts
+close_fits : (own : Bracket) (e : Expects) (ls : List Level) (bs : List Bracket) (ts : List Token) → Changed (change_of (token.Close own) e (head_of ls) (head_of bs)) (nest_at e ls bs) ts
     → LeftAt e ls bs (token.Close own ∷ ts)
 close_fits bracket.List e ls (bracket.List ∷ bs) ts p = close_if_fits bracket.List e ls bs ts p
 close_fits bracket.Map e ls (bracket.Map ∷ bs) ts p = close_if_fits bracket.Map e ls bs ts p
 close_fits _ e ls _ ts p = absurd p
 
-comma_fits : (e : Expects) (ls : List Level) (bs : List Bracket) (ts : List Token) → Changed (comma_change e (head_of bs)) (nest_at e ls bs) ts
+comma_fits : (e : Expects) (ls : List Level) (bs : List Bracket) (ts : List Token) → Changed (change_of token.Comma e (head_of ls) (head_of bs)) (nest_at e ls bs) ts
     → LeftAt e ls bs (token.Comma ∷ ts)
 comma_fits e ls [] ts p = absurd p
 comma_fits expects.Value ls (k ∷ bs) ts p = absurd p
@@ -286,7 +278,7 @@ all_end [] ts b = b
 all_end (lev.Map c ∷ ls) ts b = in_map no_key (all_end ls ts b)
 all_end (lev.Sequence c ∷ ls) ts b = in_sequence no_item (all_end ls ts b)
 
-marker_fits : (e : Expects) (ls : List Level) (bs : List Bracket) (ts : List Token) → Changed (marker_change (head_of bs)) (nest_at e ls bs) ts
+marker_fits : (e : Expects) (ls : List Level) (bs : List Bracket) (ts : List Token) → Changed (change_of token.Marker e (head_of ls) (head_of bs)) (nest_at e ls bs) ts
     → LeftAt e ls bs (token.Marker ∷ ts)
 marker_fits e ls [] ts p = null_value e ls (token.Marker ∷ ts) (all_end ls (token.Marker ∷ ts) (before_marker (documents_of ts p)))
 marker_fits e ls (k ∷ bs) ts p = absurd p

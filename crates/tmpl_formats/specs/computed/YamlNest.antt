@@ -1,5 +1,6 @@
 -- What is open at a place of a YAML text, innermost first.
-use Rattle.std.specs.Prelude.{ℕ, Bool, true, false, ◌||◌, ◌&&◌, ◌==◌, nat_lt, nat_le, List, [], ◌∷◌, Option, Some, None, is_some, option_map, option_and_then, if◌then◌else◌}
+use Rattle.std.specs.Bool.{then_some}
+use Rattle.std.specs.Prelude.{ℕ, Bool, true, false, not, ◌||◌, ◌&&◌, ◌==◌, nat_lt, nat_le, List, [], ◌∷◌, Option, Some, None, is_some, option_map, option_and_then, if◌then◌else◌}
 use Rattle.tmpl_formats.specs.declared.yaml_nest.Bracket.{Bracket}
 use Rattle.tmpl_formats.specs.declared.yaml_nest.Bracket.TheVariants as bracket
 use Rattle.tmpl_formats.specs.declared.yaml_nest.Change.{Change}
@@ -29,15 +30,6 @@ abbrev pub tail_of : {A : Type 0} → List A → List A
 tail_of [] = []
 tail_of (x ∷ xs) = xs
 
-abbrev pub push_if : Bool → Level → Option Change
-push_if t l = if t then Some (change.Push l) else None
-
-abbrev pub expect_if : Bool → Expects → Option Change
-expect_if t e = if t then Some (change.Expect e) else None
-
-abbrev pub open_if : Bool → Bracket → Option Change
-open_if t k = if t then Some (change.Open k) else None
-
 abbrev pub is_value : Expects → Bool
 is_value expects.Value = true
 is_value _ = false
@@ -65,50 +57,27 @@ holds_at c e top None = holds c e top
 holds_at c e top (Some k) = holds_in e k
 
 abbrev pub item : ℕ → Expects → Option Level → Option Change
-item c e None = push_if (is_value e) (level.Sequence c)
-item c e (Some (level.Map d)) = push_if (is_value e && nat_le d c) (level.Sequence c)
-item c e (Some (level.Sequence d)) = if d == c then Some (change.Expect expects.Value) else push_if (is_value e && nat_lt d c) (level.Sequence c)
-
-abbrev pub item_at : ℕ → Expects → Option Level → Option Bracket → Option Change
-item_at c e top None = item c e top
-item_at c e top (Some k) = None
+item c e None = then_some (is_value e) (change.Push (level.Sequence c))
+item c e (Some (level.Map d)) = then_some (is_value e && nat_le d c) (change.Push (level.Sequence c))
+item c e (Some (level.Sequence d)) = if d == c then Some (change.Expect expects.Value) else then_some (is_value e && nat_lt d c) (change.Push (level.Sequence c))
 
 abbrev pub key : ℕ → Expects → Option Level → Option Change
-key c e None = push_if (is_value e) (level.Map c)
-key c e (Some (level.Map d)) = if d == c then Some (change.Expect expects.Value) else push_if (is_value e && nat_lt d c) (level.Map c)
-key c e (Some (level.Sequence d)) = push_if (is_value e && nat_lt d c) (level.Map c)
-
-abbrev pub key_at : ℕ → Expects → Option Level → Option Bracket → Option Change
-key_at c e top None = key c e top
-key_at c e top (Some bracket.List) = None
-key_at c e top (Some bracket.Map) = expect_if (is_entry e) expects.Value
-
-abbrev pub close_if : Expects → Option Change
-close_if expects.Value = None
-close_if _ = Some change.Close
-
-abbrev pub close : Bracket → Expects → Option Bracket → Option Change
-close bracket.List e (Some bracket.List) = close_if e
-close bracket.Map e (Some bracket.Map) = close_if e
-close _ e _ = None
-
-abbrev pub comma : Expects → Option Bracket → Option Change
-comma e None = None
-comma e (Some k) = expect_if (is_nothing e) expects.Entry
-
-abbrev pub marker : Option Bracket → Option Change
-marker None = Some change.Reset
-marker (Some k) = None
+key c e None = then_some (is_value e) (change.Push (level.Map c))
+key c e (Some (level.Map d)) = if d == c then Some (change.Expect expects.Value) else then_some (is_value e && nat_lt d c) (change.Push (level.Map c))
+key c e (Some (level.Sequence d)) = then_some (is_value e && nat_lt d c) (change.Push (level.Map c))
 
 -- what a token does
 abbrev pub change_of : Token → Expects → Option Level → Option Bracket → Option Change
-change_of (token.Item c) e top k = item_at c e top k
-change_of (token.Key c) e top k = key_at c e top k
-change_of (token.Scalar c) e top k = expect_if (holds_at c e top k) expects.Nothing
-change_of (token.Open own c) e top k = open_if (holds_at c e top k) own
-change_of (token.Close own) e top k = close own e k
-change_of token.Comma e top k = comma e k
-change_of token.Marker e top k = marker k
+change_of (token.Item c) e top None = item c e top
+change_of (token.Key c) e top None = key c e top
+change_of (token.Key c) e top (Some bracket.Map) = then_some (is_entry e) (change.Expect expects.Value)
+change_of (token.Scalar c) e top k = then_some (holds_at c e top k) (change.Expect expects.Nothing)
+change_of (token.Open own c) e top k = then_some (holds_at c e top k) (change.Open own)
+change_of (token.Close bracket.List) e top (Some bracket.List) = then_some (not (is_value e)) change.Close
+change_of (token.Close bracket.Map) e top (Some bracket.Map) = then_some (not (is_value e)) change.Close
+change_of token.Comma e top (Some k) = then_some (is_nothing e) (change.Expect expects.Entry)
+change_of token.Marker e top None = Some change.Reset
+change_of _ e top k = None
 
 abbrev pub applied : Change → Nest → Nest
 applied (change.Expect e) n = nest_at e n.levels n.brackets
