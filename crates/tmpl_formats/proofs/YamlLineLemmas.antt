@@ -3,14 +3,14 @@ use Rattle.std.proofs.Common.{◌≡◌, ◌≤◌, ◌<◌, ℕ, zero, suc, ◌
 use Rattle.std.proofs.lemmas.Grind.{common_steps}
 use Rattle.std.proofs.lemmas.Slice.Eq.{bytes_eq-Decides}
 use Rattle.std.specs.List.{list_all}
-use Rattle.std.specs.Prelude.{not}
+use Rattle.std.specs.Prelude.{not, option_and_then}
 use Rattle.tmpl_formats.proofs.YamlNestLemmas.{Left, Fits, happened_fits, tokens_of}
 use Rattle.tmpl_formats.specs.Yaml.{HasLine, line_end, a_byte, HasBlank, blank_end, a_space, HasHeader, clipped, chomped, spaces, HasLines, no_line, blank, line, HasBlock, empty, first_blank, first_line, IsGap, gap_end, gap_space, is_flow, takes_values, takes_keys, parent_of, after_key, after_value, MayFollow, opening, closing, HasTokens, newline, space, comment, marker, item, key, quoted_key, scalar, block, open_, comma, close, close_last}
 use Rattle.tmpl_formats.specs.YamlScalar.{is_start, passes, may_follow, is_sign, is_plain, is_escape, digits_after, is_character, HasDigits, complete, digit, HasDouble, close_double, plain_double, escape, coded, HasSingle, close_single, plain_single, doubled, HasQuoted, double, single, HasScalar, plain, quoted}
 use Rattle.tmpl_formats.specs.Hex.{hex_value}
 use Rattle.tmpl_formats.specs.computed.YamlScalar.{starts_well, is_scalar, is_spaced_scalar, is_name}
 use Rattle.tmpl_formats.specs.computed.Yaml.{written}
-use Rattle.tmpl_formats.specs.computed.YamlLine.{sign_of, spot_at, to, move_to, spot_if, at_gap, gap_if, at_next_gap, begin_in, lead_in, mark_if, at_node, at_flow, on_line, at_place, after_flow_scalar, after_scalar_in, key_if, is_margin_in, after_dash, after_dashes, after_closed, in_comment, more_plain, ends_entry, whole_value, after_plain, named_key, after_colon, spaced_value, after_space, after_digit, in_single, at_quoted_colon, after_quoted, after_quote, at_header_end, block_if, in_block, indent_if, before_indent, text_or, in_indent, in_text, move_of}
+use Rattle.tmpl_formats.specs.computed.YamlLine.{sign_of, spot_at, to, move_to, next_column, next_spot, at_gap, at_next_gap, begin_in, lead_in, at_node, at_flow, on_line, at_place, after_flow_scalar, after_scalar_in, key_if, is_margin_in, after_dash, after_dashes, after_closed, in_comment, more_plain, ends_entry, whole_value, after_plain, named_key, after_colon, spaced_value, after_space, after_digit, in_single, at_quoted_colon, after_quoted, after_quote, at_header_end, in_block, before_indent, in_indent, in_text, move_of}
 use Rattle.tmpl_formats.specs.computed.YamlNest.{Nest, nest_at, happened, is_in_brackets}
 use Rattle.tmpl_formats.specs.declared.yaml_nest.Bracket.{Bracket}
 use Rattle.tmpl_formats.specs.declared.yaml_nest.Bracket.TheVariants as bracket
@@ -250,16 +250,23 @@ at_reach p c s e n text h = rest_reached p c s (Before e n) text (reach (at.At (
 
 -- ---- a space, and the end of a line
 
-spot_space : (t : Bool) (p : Place) (c : ℕ) (e : Event) (s : List ℕ) (n : Nest) (text : List ℕ) → Went (spot_if p (cond t (Some (c + 1)) None) e) s n text
-    → Rest p c (Before e n) (32 ∷ text)
-spot_space true p c e s n text h = spaced (subst P (add-one c) (at_reach p (c + 1) s e n text h))
-  where
-    P : ℕ → Type 0
-    P m = Rest p m (Before e n) text
+-- what follows a test that passed, and the next column
+guarded : (t : Bool) (r : Option Move) (s : List ℕ) (n : Nest) (text : List ℕ) → Went (cond t r None) s n text → (t ≡ true) × Went r s n text
+guarded true r s n text h = (refl, h)
+guarded false r s n text h = absurd h
 
+counted : (t : Bool) (c : ℕ) (f : ℕ → Option Move) (s : List ℕ) (n : Nest) (text : List ℕ) → Went (option_and_then f (cond t (Some (c + 1)) None)) s n text → Went (f (c + 1)) s n text
+counted true c f s n text h = h
+counted false c f s n text h = absurd h
+
+next_goes : (c : ℕ) (f : ℕ → Option Move) (s : List ℕ) (n : Nest) (text : List ℕ) → Went (option_and_then f (next_column c)) s n text → Went (f (suc c)) s n text
+next_goes c f s n text h = rw (← add-one c) (counted (nat_lt (c + 1) (2 ^ 64)) c f s n text h)
+
+spot_space : (p : Place) (c : ℕ) (e : Event) (s : List ℕ) (n : Nest) (text : List ℕ) → Went (next_spot p c e) s n text → Rest p c (Before e n) (32 ∷ text)
+spot_space p c e s n text h = spaced (at_reach p (suc c) s e n text (next_goes c (λ d. to (at.At (spot_at p d)) e) s n text h))
+  where
     spaced : Rest p (suc c) (Before e n) text → Rest p c (Before e n) (32 ∷ text)
     spaced (rest_of h l) = rest_of (space h) l
-spot_space false p c e s n text h = absurd h
 
 line_newline : (t : Bool) (p : Place) (c : ℕ) (e : Event) (s : List ℕ) (n : Nest) (text : List ℕ) → is_flow p ≡ t
     → Went (cond t None (to (at.At (spot_at place.Line 0)) e)) s n text → Rest p c (Before e n) (10 ∷ text)
@@ -271,14 +278,13 @@ line_newline false p c e s n text f h = lined (at_reach place.Line 0 s e n text 
 
 gap_goes : (x : Sign) (p : Place) (c : ℕ) (e : Event) (b : ℕ) (s : List ℕ) (n : Nest) (text : List ℕ) → sign_of b ≡ x → Went (at_gap p c x e) s n text
     → IsGap (b ∷ text) × Rest p c (Before e n) (b ∷ text)
-gap_goes sign.Space p c e b s n text i h = rw (byte_of sign.Space b i refl) (gap_space, spot_space (nat_lt (c + 1) (2 ^ 64)) p c e s n text h)
+gap_goes sign.Space p c e b s n text i h = rw (byte_of sign.Space b i refl) (gap_space, spot_space p c e s n text h)
 gap_goes sign.Newline p c e b s n text i h = rw (byte_of sign.Newline b i refl) (gap_end, line_newline (is_flow p) p c e s n text refl h)
 gap_goes _ p c e b s n text i h = absurd h
 
-next_gap_goes : (t : Bool) (x : Sign) (p : Place) (c : ℕ) (e : Event) (b : ℕ) (s : List ℕ) (n : Nest) (text : List ℕ) → sign_of b ≡ x
-    → Went (gap_if p (cond t (Some (c + 1)) None) x e) s n text → IsGap (b ∷ text) × Rest p (suc c) (Before e n) (b ∷ text)
-next_gap_goes true x p c e b s n text i h = rw (← add-one c) (gap_goes x p (c + 1) e b s n text i h)
-next_gap_goes false x p c e b s n text i h = absurd h
+next_gap_goes : (x : Sign) (p : Place) (c : ℕ) (e : Event) (b : ℕ) (s : List ℕ) (n : Nest) (text : List ℕ) → sign_of b ≡ x
+    → Went (at_next_gap p c x e) s n text → IsGap (b ∷ text) × Rest p (suc c) (Before e n) (b ∷ text)
+next_gap_goes x p c e b s n text i h = gap_goes x p (suc c) e b s n text i (next_goes c (λ d. at_gap p d x e) s n text h)
 
 -- ---- where a key or a value begins
 
@@ -311,7 +317,7 @@ header_reached : (p : Place) (c parent b : ℕ) (s : List ℕ) (n : Nest) (text 
     → Reaches (at.Header parent) s (Before (event.One (token.Scalar c)) n) text → Rest p c (Left n) (b ∷ text)
 header_reached p c parent b s n text e m (reaches bs (after h (after l (rest_of t left)))) = rest_of (block e m h l t) left
 
-mark_goes : (r : Option ℕ) (p : Place) (c b : ℕ) (s : List ℕ) (n : Nest) (text : List ℕ) → parent_of p ≡ r → (b == 124 || b == 62) ≡ true → Went (mark_if r c) s n text
+mark_goes : (r : Option ℕ) (p : Place) (c b : ℕ) (s : List ℕ) (n : Nest) (text : List ℕ) → parent_of p ≡ r → (b == 124 || b == 62) ≡ true → Went (option_and_then (λ parent. to (at.Header parent) (event.One (token.Scalar c))) r) s n text
     → Rest p c (Left n) (b ∷ text)
 mark_goes None p c b s n text e m h = absurd h
 mark_goes (Some parent) p c b s n text e m h = header_reached p c parent b s n text e m (reach (at.Header parent) s (event.One (token.Scalar c)) n text h)
@@ -360,17 +366,12 @@ flow_goes x c b s n text i h = node_goes x place.Flow c b s n text i refl h
 comment_rest : (p : Place) (c : ℕ) (L : List Token → Type 0) (text : List ℕ) → is_flow p ≡ false → After HasLine (LineRest L) text → Rest p c L (35 ∷ text)
 comment_rest p c L text f (after l (rest_of h left)) = rest_of (comment f l h) left
 
-value_goes : (t : Bool) (x : Sign) (p : Place) (c b : ℕ) (s : List ℕ) (n : Nest) (text : List ℕ) → sign_of b ≡ x → takes_values p ≡ t
-    → Went (cond t (at_node (spot_at p c) x b) None) s n text → Rest p c (Left n) (b ∷ text)
-value_goes true x p c b s n text i v h = node_goes x p c b s n text i v h
-value_goes false x p c b s n text i v h = absurd h
-
 line_goes : (x : Sign) (p : Place) (c b : ℕ) (s : List ℕ) (n : Nest) (text : List ℕ) → sign_of b ≡ x → is_flow p ≡ false → Went (on_line (spot_at p c) x b) s n text
     → Rest p c (Left n) (b ∷ text)
 line_goes sign.Space p c b s n text i f h = (gap_goes sign.Space p c event.Nothing b s n text i h).1
 line_goes sign.Newline p c b s n text i f h = (gap_goes sign.Newline p c event.Nothing b s n text i h).1
 line_goes sign.Hash p c b s n text i f h = rw (byte_of sign.Hash b i refl) (comment_rest p c (Left n) text f h)
-line_goes x p c b s n text i f h = value_goes (takes_values p) x p c b s n text i refl h
+line_goes x p c b s n text i f h = let g = guarded (takes_values p) (at_node (spot_at p c) x b) s n text h in node_goes x p c b s n text i g.0 g.1
 
 place_goes : (p : Place) (x : Sign) (c b : ℕ) (s : List ℕ) (n : Nest) (text : List ℕ) → sign_of b ≡ x → Went (at_place (spot_at p c) x b) s n text → Rest p c (Left n) (b ∷ text)
 place_goes place.Flow x c b s n text i h = flow_goes x c b s n text i h
@@ -459,7 +460,7 @@ key_if_goes : (t u : Bool) (p : Place) (x : Sign) (c b : ℕ) (s : List ℕ) (n 
     → (t ≡ true → HasScalar (is_flow p) whole (58 ∷ b ∷ text))
     → Went (cond (t && u) (at_next_gap (after_key p c) c x (event.One (token.Key c))) None) s n text → Rest p c (Left n) whole
 key_if_goes true true p x c b s n text whole i v q h =
-    key_rest p c n whole (b ∷ text) v (q refl) (next_gap_goes (nat_lt (c + 1) (2 ^ 64)) x (after_key p c) c (event.One (token.Key c)) b s n text i h)
+    key_rest p c n whole (b ∷ text) v (q refl) (next_gap_goes x (after_key p c) c (event.One (token.Key c)) b s n text i h)
 key_if_goes _ _ p x c b s n text whole i v q h = absurd h
 
 item_rest : (p : Place) (c : ℕ) (n : Nest) (text : List ℕ) → takes_keys p ≡ true → is_flow p ≡ false
@@ -469,7 +470,7 @@ item_rest p c n text v f (g, rest_of h l) = rest_of (item v f g h) l
 item_if_goes : (t u : Bool) (p : Place) (x : Sign) (c b : ℕ) (s : List ℕ) (n : Nest) (text : List ℕ) → sign_of b ≡ x → takes_keys p ≡ t → is_flow p ≡ u
     → Went (cond (t && not u) (at_next_gap (place.Item c) c x (event.Item c)) None) s n text → Rest p c (Left n) (45 ∷ b ∷ text)
 item_if_goes true false p x c b s n text i v f h =
-    item_rest p c n (b ∷ text) v f (next_gap_goes (nat_lt (c + 1) (2 ^ 64)) x (place.Item c) c (event.Item c) b s n text i h)
+    item_rest p c n (b ∷ text) v f (next_gap_goes x (place.Item c) c (event.Item c) b s n text i h)
 item_if_goes _ _ p x c b s n text i v f h = absurd h
 
 -- ---- dashes
@@ -544,10 +545,9 @@ three_of _ _ v h = cc
 plain_more : (p : Place) (c b : ℕ) (s : List ℕ) (L : List Token → Type 0) (text : List ℕ) → Rest p c L ((s ++ b ∷ []) ++ text) → Rest p c L (s ++ b ∷ text)
 plain_more p c b s L text h = rw (← append_assoc s (b ∷ []) text) h
 
-more_plain_goes : (t : Bool) (p : Place) (c b : ℕ) (s : List ℕ) (n : Nest) (text : List ℕ) → Went (cond t (move_to (at.Plain (spot_at p c)) (writes.Add b) event.Nothing) None) s n text
-    → Rest p c (Left n) (s ++ b ∷ text)
-more_plain_goes true p c b s n text h = plain_more p c b s (Left n) text h
-more_plain_goes false p c b s n text h = absurd h
+more_plain_goes : (p : Place) (c b : ℕ) (s : List ℕ) (n : Nest) (text : List ℕ) → Went (more_plain (spot_at p c) b) s n text → Rest p c (Left n) (s ++ b ∷ text)
+more_plain_goes p c b s n text h =
+    plain_more p c b s (Left n) text (guarded (may_follow (is_flow p) 0 b) (move_to (at.Plain (spot_at p c)) (writes.Add b) event.Nothing) s n text h).1
 
 whole_scalar : (f : Bool) (s more : List ℕ) → is_scalar f s (length s) ≡ true → HasScalar f (s ++ more) more
 whole_scalar f s more h =
@@ -562,11 +562,7 @@ whole_goes x p c b s n text i h =
 either_plain : (t : Bool) (x : Sign) (p : Place) (c b : ℕ) (s : List ℕ) (n : Nest) (text : List ℕ) → sign_of b ≡ x
     → Went (cond t (whole_value (spot_at p c) s x) (more_plain (spot_at p c) b)) s n text → Rest p c (Left n) (s ++ b ∷ text)
 either_plain true x p c b s n text i h = whole_goes x p c b s n text i h
-either_plain false x p c b s n text i h = more_plain_goes (may_follow (is_flow p) 0 b) p c b s n text h
-
-guarded : (t : Bool) (r : Option Move) (s : List ℕ) (n : Nest) (text : List ℕ) → Went (cond t r None) s n text → Went r s n text
-guarded true r s n text h = h
-guarded false r s n text h = absurd h
+either_plain false x p c b s n text i h = more_plain_goes p c b s n text h
 
 plain_goes : (x : Sign) (p : Place) (c b : ℕ) (s : List ℕ) (n : Nest) (text : List ℕ) → sign_of b ≡ x → Went (after_plain (spot_at p c) s x b) s n text
     → Rest p c (Left n) (s ++ b ∷ text)
@@ -594,7 +590,7 @@ colon_goes : (x : Sign) (p : Place) (c end b : ℕ) (s : List ℕ) (n : Nest) (t
 colon_goes sign.Space p c end b s n text i h = named_goes sign.Space p c end b s n text i h
 colon_goes sign.Newline p c end b s n text i h = named_goes sign.Newline p c end b s n text i h
 colon_goes sign.Colon p c end b s n text i h = plain_more p c b s (Left n) text h
-colon_goes x p c end b s n text i h = more_plain_goes (may_follow (is_flow p) 0 b) p c b s n text h
+colon_goes x p c end b s n text i h = more_plain_goes p c b s n text h
 
 -- spaces after a scalar
 more_space : (p : Place) (L : List Token → Type 0) (text : List ℕ) → AnyRest p L text → AnyRest p L (32 ∷ text)
@@ -636,9 +632,9 @@ spaced_goes x p c end b s n text i e h = spaced_if (is_spaced_scalar (is_flow p)
 either_spaced : (t : Bool) (x : Sign) (p : Place) (c end b : ℕ) (s : List ℕ) (n : Nest) (text : List ℕ) → sign_of b ≡ x → ends_entry x ≡ t
     → (u : Bool) → Went (cond (u && t) (spaced_value (spot_at p c) s end x) (more_plain (spot_at p c) b)) s n text → is_ending x ≡ ends_entry x → Rest p c (Left n) (s ++ b ∷ text)
 either_spaced true x p c end b s n text i e true h j = spaced_goes x p c end b s n text i (j ∙ e) h
-either_spaced true x p c end b s n text i e false h j = more_plain_goes (may_follow (is_flow p) 0 b) p c b s n text h
-either_spaced false x p c end b s n text i e true h j = more_plain_goes (may_follow (is_flow p) 0 b) p c b s n text h
-either_spaced false x p c end b s n text i e false h j = more_plain_goes (may_follow (is_flow p) 0 b) p c b s n text h
+either_spaced true x p c end b s n text i e false h j = more_plain_goes p c b s n text h
+either_spaced false x p c end b s n text i e true h j = more_plain_goes p c b s n text h
+either_spaced false x p c end b s n text i e false h j = more_plain_goes p c b s n text h
 
 no_flow_after : (p : Place) → is_flow p ≡ false → is_flow (after_value p) ≡ false
 no_flow_after place.Flow e = cc
@@ -717,20 +713,11 @@ flow_key_rest : (c : ℕ) (n : Nest) (text whole : List ℕ) → HasQuoted whole
     → Rest place.Flow c (Left n) whole
 flow_key_rest c n text whole q (rest_of h l) = rest_of (quoted_key q h) l
 
-flow_key_goes : (t : Bool) (c : ℕ) (s : List ℕ) (n : Nest) (text whole : List ℕ) → HasQuoted whole (58 ∷ text)
-    → Went (spot_if place.Flow (cond t (Some (c + 1)) None) (event.One (token.Key c))) s n text → Rest place.Flow c (Left n) whole
-flow_key_goes true c s n text whole q h =
-    let P : ℕ → Type 0 = λ m. Rest place.Flow m (Before (event.One (token.Key c)) n) text in
-    flow_key_rest c n text whole q (subst P (add-one c) (at_reach place.Flow (c + 1) s (event.One (token.Key c)) n text h))
-flow_key_goes false c s n text whole q h = absurd h
-
-colon_if : (t : Bool) (x : Spot) (s : List ℕ) (n : Nest) (text : List ℕ) → Went (cond t (to (at.QuotedColon x) event.Nothing) None) s n text → QuotedRest x (Left n) (58 ∷ text)
-colon_if true x s n text h = h
-colon_if false x s n text h = absurd h
-
 quoted_colon_goes : (p : Place) (c : ℕ) (s : List ℕ) (n : Nest) (text : List ℕ) → Went (at_quoted_colon (spot_at p c)) s n text → QuotedRest (spot_at p c) (Left n) (58 ∷ text)
-quoted_colon_goes place.Flow c s n text h = λ whole q. flow_key_goes (nat_lt (c + 1) (2 ^ 64)) c s n text whole q h
-quoted_colon_goes p c s n text h = colon_if (takes_keys p) (spot_at p c) s n text h
+quoted_colon_goes place.Flow c s n text h =
+    let e = event.One (token.Key c) in
+    λ whole q. flow_key_rest c n text whole q (at_reach place.Flow (suc c) s e n text (next_goes c (λ d. to (at.At (spot_at place.Flow d)) e) s n text h))
+quoted_colon_goes p c s n text h = (guarded (takes_keys p) (to (at.QuotedColon (spot_at p c)) event.Nothing) s n text h).1
 
 quoted_goes : (z : Sign) (x : Spot) (b : ℕ) (s : List ℕ) (n : Nest) (text : List ℕ) → sign_of b ≡ z → Went (after_quoted x z) s n text → QuotedRest x (Left n) (b ∷ text)
 quoted_goes sign.Colon x b s n text i h = rw (byte_of sign.Colon b i refl) (quoted_colon_goes x.place x.column s n text h)
@@ -783,10 +770,8 @@ blank_first : (t : Bool) (parent c : ℕ) (s : List ℕ) (n : Nest) (text : List
 blank_first true parent c s n text e (after h q) = after (first_blank c (few_spaces c parent e) h) q
 blank_first false parent c s n text e h = absurd h
 
-block_space : (t : Bool) (parent c : ℕ) (s : List ℕ) (n : Nest) (text : List ℕ) → Went (block_if parent (cond t (Some (c + 1)) None)) s n text
-    → BlockRest parent (Left n) (spaces c ++ 32 ∷ text)
-block_space true parent c s n text h = rw (← (ap (λ m. spaces m ++ text) (add-one c) ∙ more_spaces c text)) h
-block_space false parent c s n text h = absurd h
+block_space : (parent c : ℕ) (s : List ℕ) (n : Nest) (text : List ℕ) → Went (in_block parent c sign.Space 32) s n text → BlockRest parent (Left n) (spaces c ++ 32 ∷ text)
+block_space parent c s n text h = rw (← more_spaces c text) (next_goes c (λ d. to (at.Block parent d) event.Nothing) s n text h)
 
 greater : (a b : ℕ) → nat_le a b ≡ false → b < a
 greater a b = grind (arith, common_steps)
@@ -806,7 +791,7 @@ first_text_goes false false x parent c b s n text i j e f h =
 block_goes : (x : Sign) (parent c b : ℕ) (s : List ℕ) (n : Nest) (text : List ℕ) → sign_of b ≡ x → Went (in_block parent c x b) s n text
     → BlockRest parent (Left n) (spaces c ++ b ∷ text)
 block_goes sign.Newline parent c b s n text i h = rw (byte_of sign.Newline b i refl) (blank_first ((c == 0) || nat_le (c - 1) parent) parent c s n text refl h)
-block_goes sign.Space parent c b s n text i h = rw (byte_of sign.Space b i refl) (block_space (nat_lt (c + 1) (2 ^ 64)) parent c s n text h)
+block_goes sign.Space parent c b s n text i h = rw (byte_of sign.Space b i refl) (block_space parent c s n text h)
 block_goes x parent c b s n text i h = first_text_goes (nat_le c parent) (b == 9) x parent c b s n text i refl refl refl h
 
 blank_rest : (own c : ℕ) (L : List Token → Type 0) (text : List ℕ) → LinesRest own L text → LinesRest own L (spaces c ++ 10 ∷ text)
@@ -815,23 +800,18 @@ blank_rest own c L text (after h q) = after (blank c h) q
 line_rest : (own b : ℕ) (L : List Token → Type 0) (text : List ℕ) → not (b == 10) ≡ true → After HasLine (LinesRest own L) text → LinesRest own L (spaces own ++ b ∷ text)
 line_rest own b L text e (after h (after hs q)) = after (line (a_byte e h) hs) q
 
-indent_space : (t : Bool) (parent own c : ℕ) (s : List ℕ) (n : Nest) (text : List ℕ) → Went (indent_if parent own (cond t (Some (c + 1)) None)) s n text
-    → LinesRest own (Left n) (spaces c ++ 32 ∷ text)
-indent_space true parent own c s n text h = rw (← (ap (λ m. spaces m ++ text) (add-one c) ∙ more_spaces c text)) h
-indent_space false parent own c s n text h = absurd h
-
-after_block_goes : (t : Bool) (x : Sign) (own c b : ℕ) (s : List ℕ) (n : Nest) (text : List ℕ) → sign_of b ≡ x → Went (cond t (at_place (spot_at place.Line c) x b) None) s n text
-    → LinesRest own (Left n) (spaces c ++ b ∷ text)
-after_block_goes true x own c b s n text i h = after no_line (spaced_line c (Left n) (b ∷ text) (place_goes place.Line x c b s n text i h))
-after_block_goes false x own c b s n text i h = absurd h
+indent_space : (parent own c : ℕ) (s : List ℕ) (n : Nest) (text : List ℕ) → Went (before_indent parent own c sign.Space 32) s n text → LinesRest own (Left n) (spaces c ++ 32 ∷ text)
+indent_space parent own c s n text h = rw (← more_spaces c text) (next_goes c (λ d. to (at.Indent parent own d) event.Nothing) s n text h)
 
 before_goes : (x : Sign) (parent own c b : ℕ) (s : List ℕ) (n : Nest) (text : List ℕ) → sign_of b ≡ x → Went (before_indent parent own c x b) s n text
     → LinesRest own (Left n) (spaces c ++ b ∷ text)
-before_goes sign.Space parent own c b s n text i h = rw (byte_of sign.Space b i refl) (indent_space (nat_lt (c + 1) (2 ^ 64)) parent own c s n text h)
-before_goes x parent own c b s n text i h = after_block_goes (nat_le c parent) x own c b s n text i h
+before_goes sign.Space parent own c b s n text i h = rw (byte_of sign.Space b i refl) (indent_space parent own c s n text h)
+before_goes x parent own c b s n text i h =
+    let g = guarded (nat_le c parent) (at_place (spot_at place.Line c) x b) s n text h in
+    after no_line (spaced_line c (Left n) (b ∷ text) (place_goes place.Line x c b s n text i g.1))
 
 text_or_goes : (t : Bool) (x : Sign) (parent own c b : ℕ) (s : List ℕ) (n : Nest) (text : List ℕ) → sign_of b ≡ x → line_sign x ≡ true → (c == own) ≡ t
-    → Went (text_or t parent own c x b) s n text → LinesRest own (Left n) (spaces c ++ b ∷ text)
+    → Went (cond t (to (at.Text parent own) event.Nothing) (before_indent parent own c x b)) s n text → LinesRest own (Left n) (spaces c ++ b ∷ text)
 text_or_goes true x parent own c b s n text i j e h = rw (same_of c own e) (line_rest own b (Left n) text (no_newlines b (ap line_sign i ∙ j)) h)
 text_or_goes false x parent own c b s n text i j e h = before_goes x parent own c b s n text i h
 
@@ -854,7 +834,7 @@ byte_goes at.Dashes s n b text h = dashes_goes (sign_of b) b s n text refl h
 byte_goes at.Closed s n b text h = closed_goes (sign_of b) n.brackets n b s text refl refl h
 byte_goes at.Comment s n b text h = comment_goes (sign_of b) b s n text refl h
 byte_goes (at.Plain x) s n b text h =
-    plain_goes (sign_of b) x.place x.column b s n text refl (guarded (starts_well s b) (after_plain x s (sign_of b) b) s n text h)
+    plain_goes (sign_of b) x.place x.column b s n text refl (guarded (starts_well s b) (after_plain x s (sign_of b) b) s n text h).1
 byte_goes (at.PlainColon x end) s n b text h = colon_goes (sign_of b) x.place x.column end b s n text refl h
 byte_goes (at.PlainSpace x end) s n b text h = space_goes (sign_of b) x.place x.column end b s n text refl h
 byte_goes (at.Double x) s n b text h = double_goes (b == 34) (b == 92) (b == 10) x b s n text refl refl refl h

@@ -1,5 +1,5 @@
 -- The machine for lines of YAML: what each byte does.
-use Rattle.std.specs.Prelude.{ℕ, ◌+◌, ◌-◌, ◌*◌, ◌^◌, Bool, true, false, not, ◌||◌, ◌&&◌, ◌==◌, nat_lt, nat_le, List, length, Option, Some, None, if◌then◌else◌}
+use Rattle.std.specs.Prelude.{ℕ, ◌+◌, ◌-◌, ◌*◌, ◌^◌, Bool, true, false, not, ◌||◌, ◌&&◌, ◌==◌, nat_lt, nat_le, List, length, Option, Some, None, option_and_then, if◌then◌else◌}
 use Rattle.std.specs.Str.{byte}
 use Rattle.tmpl_formats.specs.Yaml.{is_flow, takes_values, takes_keys, parent_of, after_key}
 use Rattle.tmpl_formats.specs.YamlScalar.{is_start, may_follow, is_sign, is_escape, digits_after, is_character}
@@ -51,12 +51,8 @@ to q e = move_to q writes.Keep e
 abbrev pub next_column : ℕ → Option ℕ
 next_column c = if nat_lt (c + 1) (2 ^ 64) then Some (c + 1) else None
 
-abbrev pub spot_if : Place → Option ℕ → Event → Option Move
-spot_if p None e = None
-spot_if p (Some c) e = to (at.At (spot_at p c)) e
-
 abbrev pub next_spot : Place → ℕ → Event → Option Move
-next_spot p c e = spot_if p (next_column c) e
+next_spot p c e = option_and_then (λ d. to (at.At (spot_at p d)) e) (next_column c)
 
 abbrev pub next_line : Place → Event → Option Move
 next_line p e = if is_flow p then None else to (at.At (spot_at place.Line 0)) e
@@ -67,12 +63,8 @@ at_gap p c sign.Space e = next_spot p c e
 at_gap p c sign.Newline e = next_line p e
 at_gap p c _ e = None
 
-abbrev pub gap_if : Place → Option ℕ → Sign → Event → Option Move
-gap_if p None s e = None
-gap_if p (Some c) s e = at_gap p c s e
-
 abbrev pub at_next_gap : Place → ℕ → Sign → Event → Option Move
-at_next_gap p c s e = gap_if p (next_column c) s e
+at_next_gap p c s e = option_and_then (λ d. at_gap p d s e) (next_column c)
 
 abbrev pub begin_in : Place → ℕ → Event
 begin_in place.Flow c = event.Enter
@@ -89,12 +81,8 @@ lead_in _ c = event.Dash c
 abbrev pub lead : Spot → Event
 lead x = lead_in x.place x.column
 
-abbrev pub mark_if : Option ℕ → ℕ → Option Move
-mark_if None c = None
-mark_if (Some parent) c = to (at.Header parent) (event.One (token.Scalar c))
-
 abbrev pub at_mark : Spot → Option Move
-at_mark x = mark_if (parent_of x.place) x.column
+at_mark x = option_and_then (λ parent. to (at.Header parent) (event.One (token.Scalar x.column))) (parent_of x.place)
 
 -- where a key or a value begins
 abbrev pub at_node : Spot → Sign → ℕ → Option Move
@@ -107,9 +95,6 @@ at_node x sign.Mark b = at_mark x
 at_node x (sign.Open k) b = to (at.At (spot_at place.Flow 0)) (event.One (token.Open k x.column))
 at_node x _ b = None
 
-abbrev pub at_value : Spot → Sign → ℕ → Option Move
-at_value x s b = if takes_values x.place then at_node x s b else None
-
 abbrev pub at_flow : ℕ → Sign → ℕ → Option Move
 at_flow c sign.Space b = next_spot place.Flow c event.Nothing
 at_flow c sign.Comma b = to (at.At (spot_at place.Flow 0)) (event.One token.Comma)
@@ -120,7 +105,7 @@ abbrev pub on_line : Spot → Sign → ℕ → Option Move
 on_line x sign.Space b = at_gap x.place x.column sign.Space event.Nothing
 on_line x sign.Newline b = at_gap x.place x.column sign.Newline event.Nothing
 on_line x sign.Hash b = to at.Comment event.Nothing
-on_line x s b = at_value x s b
+on_line x s b = if takes_values x.place then at_node x s b else None
 
 abbrev pub at_place_in : Place → Spot → Sign → ℕ → Option Move
 at_place_in place.Flow x s b = at_flow x.column s b
@@ -159,13 +144,10 @@ is_margin_in _ c = false
 abbrev pub is_margin : Spot → Bool
 is_margin x = is_margin_in x.place x.column
 
-abbrev pub at_second_dash : Spot → ℕ → Option Move
-at_second_dash x b = if is_margin x then to at.Dashes event.Nothing else move_to (at.Plain x) (writes.Dash b) (begin x)
-
 abbrev pub after_dash : Spot → Sign → ℕ → Option Move
 after_dash x sign.Space b = item_if x sign.Space
 after_dash x sign.Newline b = item_if x sign.Newline
-after_dash x sign.Dash b = at_second_dash x b
+after_dash x sign.Dash b = if is_margin x then to at.Dashes event.Nothing else move_to (at.Plain x) (writes.Dash b) (begin x)
 after_dash x sign.Start b = move_to (at.Plain x) (writes.Dash b) (begin x)
 after_dash x _ b = None
 
@@ -198,9 +180,6 @@ after_plain x text sign.Newline b = whole_value x text sign.Newline
 after_plain x text sign.Colon b = move_to (at.PlainColon x (length text)) (writes.Add b) event.Nothing
 after_plain x text sign.Space b = move_to (at.PlainSpace x (length text)) (writes.Add b) event.Nothing
 after_plain x text s b = if is_flow x.place && ends_entry s then whole_value x text s else more_plain x b
-
-abbrev pub in_plain : Spot → List ℕ → Sign → ℕ → Option Move
-in_plain x text s b = if starts_well text b then after_plain x text s b else None
 
 abbrev pub named_key : Spot → List ℕ → ℕ → Sign → Option Move
 named_key x text end s = key_if (is_name (is_flow x.place) text end) x s
@@ -273,45 +252,19 @@ at_header_end parent _ = None
 abbrev pub at_header : ℕ → Sign → ℕ → Option Move
 at_header parent s b = if is_sign b then to (at.HeaderEnd parent) event.Nothing else at_header_end parent s
 
-abbrev pub block_if : ℕ → Option ℕ → Option Move
-block_if parent None = None
-block_if parent (Some c) = to (at.Block parent c) event.Nothing
-
-abbrev pub more_block : ℕ → ℕ → Option Move
-more_block parent c = block_if parent (next_column c)
-
-abbrev pub blank_block : ℕ → ℕ → Option Move
-blank_block parent c = if (c == 0) || nat_le (c - 1) parent then to (at.Block parent 0) event.Nothing else None
-
-abbrev pub first_text : ℕ → ℕ → Sign → ℕ → Option Move
-first_text parent c s b =
+abbrev pub in_block : ℕ → ℕ → Sign → ℕ → Option Move
+in_block parent c sign.Newline b = if (c == 0) || nat_le (c - 1) parent then to (at.Block parent 0) event.Nothing else None
+in_block parent c sign.Space b = option_and_then (λ d. to (at.Block parent d) event.Nothing) (next_column c)
+in_block parent c s b =
     if nat_le c parent then at_place (spot_at place.Line c) s b else (if b == byte "\t" then None else to (at.Text parent c) event.Nothing)
 
-abbrev pub in_block : ℕ → ℕ → Sign → ℕ → Option Move
-in_block parent c sign.Newline b = blank_block parent c
-in_block parent c sign.Space b = more_block parent c
-in_block parent c s b = first_text parent c s b
-
-abbrev pub after_block : ℕ → ℕ → Sign → ℕ → Option Move
-after_block parent c s b = if nat_le c parent then at_place (spot_at place.Line c) s b else None
-
-abbrev pub indent_if : ℕ → ℕ → Option ℕ → Option Move
-indent_if parent own None = None
-indent_if parent own (Some c) = to (at.Indent parent own c) event.Nothing
-
-abbrev pub more_indent : ℕ → ℕ → ℕ → Option Move
-more_indent parent own c = indent_if parent own (next_column c)
-
 abbrev pub before_indent : ℕ → ℕ → ℕ → Sign → ℕ → Option Move
-before_indent parent own c sign.Space b = more_indent parent own c
-before_indent parent own c s b = after_block parent c s b
-
-abbrev pub text_or : Bool → ℕ → ℕ → ℕ → Sign → ℕ → Option Move
-text_or t parent own c s b = if t then to (at.Text parent own) event.Nothing else before_indent parent own c s b
+before_indent parent own c sign.Space b = option_and_then (λ d. to (at.Indent parent own d) event.Nothing) (next_column c)
+before_indent parent own c s b = if nat_le c parent then at_place (spot_at place.Line c) s b else None
 
 abbrev pub in_indent : ℕ → ℕ → ℕ → Sign → ℕ → Option Move
 in_indent parent own c sign.Newline b = to (at.Indent parent own 0) event.Nothing
-in_indent parent own c s b = text_or (c == own) parent own c s b
+in_indent parent own c s b = if c == own then to (at.Text parent own) event.Nothing else before_indent parent own c s b
 
 abbrev pub in_text : ℕ → ℕ → Sign → Option Move
 in_text parent own sign.Newline = to (at.Indent parent own 0) event.Nothing
@@ -324,7 +277,7 @@ move_of (at.Dash x) text in_brackets b = after_dash x (sign_of b) b
 move_of at.Dashes text in_brackets b = after_dashes (sign_of b) b
 move_of at.Closed text in_brackets b = after_closed in_brackets (sign_of b) b
 move_of at.Comment text in_brackets b = in_comment (sign_of b)
-move_of (at.Plain x) text in_brackets b = in_plain x text (sign_of b) b
+move_of (at.Plain x) text in_brackets b = if starts_well text b then after_plain x text (sign_of b) b else None
 move_of (at.PlainColon x end) text in_brackets b = after_colon x text end (sign_of b) b
 move_of (at.PlainSpace x end) text in_brackets b = after_space x text end (sign_of b) b
 move_of (at.Double x) text in_brackets b = in_double x b
