@@ -2,10 +2,10 @@
 use Rattle.std.proofs.Common.{◌≡◌, ◌≢◌, ℕ, suc, ◌+◌, ◌==◌, Bool, true, false, cond, List, [], ◌∷◌, ◌++◌, Option, Some, None, arith, refl, sym, ◌∙◌, ap, subst, append_assoc, append-nil}
 use Rattle.std.proofs.lemmas.Grind.{common_steps}
 use Rattle.std.specs.List.{list_all}
-use Rattle.std.specs.Prelude.{nat_lt, option_map}
+use Rattle.std.specs.Prelude.{not, nat_lt, option_map}
 use Rattle.tmpl_formats.proofs.MachineLemmas.{went, passes-cons}
 use Rattle.tmpl_formats.specs.Csv.{is_bare, is_inside, IsInside, nothing, plain, doubled, IsField, bare, quoted, IsFields, last, more, IsRecord, IsNewline, newline, return_newline, IsCsv, empty, last_record, more_records}
-use Rattle.tmpl_formats.specs.computed.Csv.{sign_of, after_field, after_bare, at_field, after_start, after_quoted, after_quote, after_return, after_sign, step, ends, csv_at, csv_mistake}
+use Rattle.tmpl_formats.specs.computed.Csv.{sign_of, after_field, after_bare, at_field, after_sign, step, ends, csv_at, csv_mistake}
 use Rattle.tmpl_formats.specs.computed.Machine.{mistake, after_step}
 use Rattle.tmpl_formats.specs.declared.csv.Place.{Place}
 use Rattle.tmpl_formats.specs.declared.csv.Place.TheVariants as at
@@ -22,8 +22,7 @@ code_of sign.Quote = 34
 code_of _ = 0
 
 abbrev is_code : Sign → Bool
-is_code sign.Other = false
-is_code _ = true
+is_code s = not (code_of s == 0)
 
 codes_of : (b : ℕ) → is_code (sign_of b) ≡ true → b ≡ code_of (sign_of b)
 codes_of b = grind (arith, common_steps)
@@ -191,7 +190,7 @@ field_goes s columns fields b text e h known =
     left-map columns (b ∷ text) (λ t p. bare_first columns fields t p) (bare_goes s columns fields b text e h known)
 
 -- where a record begins
-start_goes : (s : Sign) (columns b : ℕ) (text : List ℕ) → sign_of b ≡ s → Accepts columns (after_start columns s) text → Known columns text
+start_goes : (s : Sign) (columns b : ℕ) (text : List ℕ) → sign_of b ≡ s → Accepts columns (after_sign columns at.Start s) text → Known columns text
     → IsCsv columns (b ∷ text)
 start_goes sign.Quote columns b text e h known = rw (byte_of sign.Quote b e refl)
     (records_left columns (34 ∷ text) (left-cons columns 34 text (λ t p. record_of columns 34 t (quoted_first columns 0 t p)) (on columns (at.Quoted 0) text known h)))
@@ -205,19 +204,19 @@ start_goes sign.Comma columns b text e h known = rw (byte_of sign.Comma b e refl
     (on_if columns (at.Field (0 + 1)) (nat_lt (0 + 1) columns) text known h).1))
 start_goes _ columns b text e h known = cc
 
-quoted_goes : (s : Sign) (columns fields b : ℕ) (text : List ℕ) → sign_of b ≡ s → Accepts columns (after_quoted fields s) text → Known columns text
+quoted_goes : (s : Sign) (columns fields b : ℕ) (text : List ℕ) → sign_of b ≡ s → Accepts columns (after_sign columns (at.Quoted fields) s) text → Known columns text
     → Left columns (QuotedLeft columns fields) (b ∷ text)
 quoted_goes sign.Null columns fields b text e h known = cc
 quoted_goes sign.Quote columns fields b text e h known = rw (byte_of sign.Quote b e refl) (left-cons columns 34 text (λ t p. quote_more columns fields t p) (on columns (at.Quote fields) text known h))
 quoted_goes _ columns fields b text e h known =
     left-cons columns b text (λ t p. inside_more columns fields b t (insides b ∙ ap inside_sign e) p) (on columns (at.Quoted fields) text known h)
 
-quote_goes : (s : Sign) (columns fields b : ℕ) (text : List ℕ) → sign_of b ≡ s → Accepts columns (after_quote columns fields s) text → Known columns text
+quote_goes : (s : Sign) (columns fields b : ℕ) (text : List ℕ) → sign_of b ≡ s → Accepts columns (after_sign columns (at.Quote fields) s) text → Known columns text
     → Left columns (QuoteLeft columns fields) (b ∷ text)
 quote_goes sign.Quote columns fields b text e h known = rw (byte_of sign.Quote b e refl) (left-cons columns 34 text (λ t p. again t p) (on columns (at.Quoted fields) text known h))
 quote_goes s columns fields b text e h known = left-map columns (b ∷ text) (λ t p. closed p) (tail_goes s columns fields b text e h known)
 
-return_goes : (s : Sign) (columns b : ℕ) (text : List ℕ) → sign_of b ≡ s → Accepts columns (after_return s) text → Known columns text
+return_goes : (s : Sign) (columns b : ℕ) (text : List ℕ) → sign_of b ≡ s → Accepts columns (after_sign columns at.Return s) text → Known columns text
     → ReturnLeft columns (b ∷ text)
 return_goes sign.Newline columns b text e h known = rw (byte_of sign.Newline b e refl) (then_newline text (on columns at.Start text known h))
 return_goes _ columns b text e h known = cc

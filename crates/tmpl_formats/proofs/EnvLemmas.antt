@@ -1,8 +1,8 @@
 -- What the machine for environment files accepts is one.
-use Rattle.std.proofs.Common.{◌≡◌, ℕ, Bool, true, false, List, [], ◌∷◌, ◌++◌, Some, None, arith, refl, ◌∙◌, ap}
+use Rattle.std.proofs.Common.{◌≡◌, ℕ, ◌==◌, Bool, true, false, List, [], ◌∷◌, ◌++◌, Some, None, arith, refl, ◌∙◌, ap}
 use Rattle.std.proofs.lemmas.Grind.{common_steps}
 use Rattle.std.specs.List.{list_all}
-use Rattle.std.specs.Prelude.{codes}
+use Rattle.std.specs.Prelude.{not, codes}
 use Rattle.tmpl_formats.proofs.LineLemmas.{Left, at_last, before_more, left-cons, lines-left, left-newline}
 use Rattle.tmpl_formats.proofs.MachineLemmas.{went, passes-cons}
 use Rattle.tmpl_formats.specs.Env.{is_comment, is_single, is_double, is_special, is_bare, is_name_start, is_name_byte, IsDouble, nothing, plain, escape, IsValue, bare, single, double, IsLine, empty, comment, assignment, IsEnv}
@@ -25,12 +25,7 @@ code_of sign.Backslash = 92
 code_of _ = 0
 
 abbrev is_code : Sign → Bool
-is_code sign.Expanding = false
-is_code sign.Plain = false
-is_code sign.Letter = false
-is_code sign.Digit = false
-is_code sign.Other = false
-is_code _ = true
+is_code s = not (code_of s == 0)
 
 codes_of : (b : ℕ) → is_code (sign_of b) ≡ true → b ≡ code_of (sign_of b)
 codes_of b = grind (arith, common_steps)

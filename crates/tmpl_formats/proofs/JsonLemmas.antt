@@ -2,8 +2,8 @@
 use Rattle.std.proofs.Common.{◌≡◌, ◌≢◌, ◌<◌, ◌≤◌, ◌⊎◌, inl, inr, ℕ, ◌+◌, ◌==◌, Bool, true, false, cond, ◌&&◌, List, [], ◌∷◌, ◌++◌, Option, Some, None, arith, refl, sym, ◌∙◌, ap}
 use Rattle.std.proofs.lemmas.Grind.{common_steps}
 use Rattle.std.specs.Char.{is_ascii_digit}
-use Rattle.std.specs.Prelude.{nat_le, nat_lt, option_map}
-use Rattle.tmpl_formats.proofs.MachineLemmas.{went, Then, both}
+use Rattle.std.specs.Prelude.{not, nat_le, nat_lt, option_map}
+use Rattle.tmpl_formats.proofs.MachineLemmas.{went, Then, both, then_map}
 use Rattle.tmpl_formats.proofs.JsonGrammar.{HasHex, no_digit, a_digit, other, below, high, HasLow, low, HasString, close, plain, short, unit, pair, HasDigits, no_more, digit, HasSome, some, HasExponent, no_exponent, unsigned, signed, HasFraction, no_fraction, fraction, HasUnsigned, zero, whole, positive, negative, HasSpace, no_space, space, HasValue, a_true, a_false, a_null, number, string, empty_array, array, empty_object, object, HasElement, element, HasItems, last_item, more_items, HasMember, member, HasMembers, last_member, more_members, IsElement}
 use Rattle.tmpl_formats.specs.computed.JsonBytes.{is_white, is_plain, is_short_escape, hex_value}
 use Rattle.tmpl_formats.specs.computed.Json.{sign_of, after, at_value, at_item, at_key, at_member, at_colon, at_end, closed, at_text, next, at_escape, at_literal, after_zero, first_digit, at_number, Config, head_of, tail_of, applied, step, ends, ends_value, is_empty, json_mistake}
@@ -46,13 +46,7 @@ code_of sign.Null = 110
 code_of _ = 0
 
 abbrev is_code : Sign → Bool
-is_code sign.Space = false
-is_code sign.White = false
-is_code sign.Control = false
-is_code sign.Digit = false
-is_code sign.Exponent = false
-is_code sign.Other = false
-is_code _ = true
+is_code s = not (code_of s == 0)
 
 codes_of : (b : ℕ) → is_code (sign_of b) ≡ true → b ≡ code_of (sign_of b)
 codes_of b = grind (arith, common_steps)
@@ -377,9 +371,6 @@ colon_goes _ s b text e h known = cc
 
 -- ---- strings
 
-plain_text : (r : Role) (s : List Open) (b : ℕ) (text : List ℕ) → is_plain b ≡ true → TextThen r s text → TextThen r s (b ∷ text)
-plain_text r s b text p (both t a) = both (plain p t) a
-
 closed_text : (r : Role) (s : List Open) (text : List ℕ) → Goes (closed r) s text → TextThen r s (34 ∷ text)
 closed_text role.Value s text a = both close a
 closed_text role.Key s text a = both close a
@@ -389,7 +380,7 @@ text_goes sign.Control r s b text e h known = cc
 text_goes sign.White r s b text e h known = cc
 text_goes sign.Quote r s b text e h known = rw (byte_of sign.Quote b e refl) (closed_text r s text (on (closed r) s text known h))
 text_goes sign.Backslash r s b text e h known = rw (byte_of sign.Backslash b e refl) (on (at.Escape r escape.Backslash) s text known h)
-text_goes _ r s b text e h known = plain_text r s b text (plains b (ap plain_sign e)) (on (at.Text r) s text known h)
+text_goes _ r s b text e h known = then_map (on (at.Text r) s text known h) (λ rest t. plain (plains b (ap plain_sign e)) t)
 
 equal_of : (m n : ℕ) → (m == n) ≡ true → m ≡ n
 equal_of m n = grind (arith, common_steps)
@@ -427,9 +418,6 @@ pair_low : (r : Role) (s : List Open) (b c : ℕ) (text : List ℕ) → hex_valu
     → PairThen r s (92 ∷ 117 ∷ b ∷ c ∷ text)
 pair_low r s b c text v m n (both d t) = pair_then (low v m n d) t
 
-short_text : (r : Role) (s : List Open) (b : ℕ) (text : List ℕ) → is_short_escape b ≡ true → TextThen r s text → TextThen r s (92 ∷ b ∷ text)
-short_text r s b text p (both t a) = both (short p t) a
-
 -- the first digit of a code unit
 unit_goes : (t : Bool) (r : Role) (s : List Open) (b : ℕ) (text : List ℕ) → (hex_value b == 13) ≡ t
     → Accepts s (cond t (Some (action.To (at.Escape r escape.Surrogate))) (next (nat_lt (hex_value b) 16) (at.Escape r escape.Hex3))) text
@@ -451,7 +439,7 @@ backslash_goes : (t : Bool) (r : Role) (s : List Open) (b : ℕ) (text : List �
     → Accepts s (cond t (Some (action.To (at.Escape r escape.Unit))) (next (is_short_escape b) (at.Text r))) text → Known text → TextThen r s (92 ∷ b ∷ text)
 backslash_goes true r s b text e h known = rw (equal_of b 117 e) (on (at.Escape r escape.Unit) s text known h)
 backslash_goes false r s b text e h known =
-    let found = on_if (at.Text r) s (is_short_escape b) text known h in short_text r s b text found.0 found.1
+    let found = on_if (at.Text r) s (is_short_escape b) text known h in then_map found.1 (λ rest t. short found.0 t)
 
 hex_goes : (q : Control) (s : List Open) (b : ℕ) (text : List ℕ) → Accepts s (next (nat_lt (hex_value b) 16) q) text → Known text → (hex_value b < 16) × Goes q s text
 hex_goes q s b text h known = let found = on_if q s (nat_lt (hex_value b) 16) text known h in (below_of (hex_value b) 16 found.0, found.1)
@@ -502,12 +490,6 @@ literal_goes literal.L s b text h known = last_letter s b 108 text h known
 
 -- ---- numbers
 
-digit_more : (Q : List ℕ → Type 0) (b : ℕ) (text : List ℕ) → is_ascii_digit b ≡ true → Then HasDigits Q text → Then HasDigits Q (b ∷ text)
-digit_more Q b text d (both m q) = both (digit d m) q
-
-digit_some : (Q : List ℕ → Type 0) (b : ℕ) (text : List ℕ) → is_ascii_digit b ≡ true → Then HasDigits Q text → Then HasSome Q (b ∷ text)
-digit_some Q b text d (both m q) = both (some d m) q
-
 exponent_of : (s : List Open) (b : ℕ) (text : List ℕ) → (b ≡ 101) ⊎ (b ≡ 69) → Then HasSome (Behind s) text → Then HasExponent (Behind s) (b ∷ text)
 exponent_of s b text e (both m q) = both (unsigned e m) q
 
@@ -518,15 +500,12 @@ exponent_signed s b c text e f (both m q) = both (signed e f m) q
 fraction_of : (s : List Open) (text : List ℕ) → NumberThen num.Point s text → Then HasFraction (Behind s) (46 ∷ text)
 fraction_of s text (both m (both x q)) = both (fraction m x) q
 
-no_fraction_of : (s : List Open) (text : List ℕ) → Then HasExponent (Behind s) text → Then HasFraction (Behind s) text
-no_fraction_of s text (both x q) = both (no_fraction x) q
-
 -- a zero or another digit
 more_digits : (x : Sign) (Q : List ℕ → Type 0) (b : ℕ) (text : List ℕ) → digit_sign x ≡ true → sign_of b ≡ x → Then HasDigits Q text → Then HasDigits Q (b ∷ text)
-more_digits x Q b text i e q = digit_more Q b text (digits b (ap digit_sign e ∙ i)) q
+more_digits x Q b text i e q = then_map q (λ rest m. digit (digits b (ap digit_sign e ∙ i)) m)
 
 some_digits : (x : Sign) (Q : List ℕ → Type 0) (b : ℕ) (text : List ℕ) → digit_sign x ≡ true → sign_of b ≡ x → Then HasDigits Q text → Then HasSome Q (b ∷ text)
-some_digits x Q b text i e q = digit_some Q b text (digits b (ap digit_sign e ∙ i)) q
+some_digits x Q b text i e q = then_map q (λ rest m. some (digits b (ap digit_sign e ∙ i)) m)
 
 power_goes : (x : Sign) (s : List Open) (b : ℕ) (text : List ℕ) → sign_of b ≡ x → Accepts s (at_number num.Power (head_of s) x) text → Known text → NumberThen num.Power s (b ∷ text)
 power_goes sign.Zero s b text e h known = more_digits sign.Zero (Behind s) b text refl e (on (at.Number num.Power) s text known h)
@@ -542,7 +521,7 @@ fraction_goes x s b text e h known = both no_more (both no_exponent (end_goes x 
 
 zero_goes : (x : Sign) (s : List Open) (b : ℕ) (text : List ℕ) → sign_of b ≡ x → Accepts s (after_zero (head_of s) x) text → Known text → NumberThen num.Zero s (b ∷ text)
 zero_goes sign.Dot s b text e h known = rw (byte_of sign.Dot b e refl) (fraction_of s text (on (at.Number num.Point) s text known h))
-zero_goes sign.Exponent s b text e h known = no_fraction_of s (b ∷ text) (on (at.Number num.Exponent) s text known h b (exponents b (ap exponent_sign e)))
+zero_goes sign.Exponent s b text e h known = then_map (on (at.Number num.Exponent) s text known h b (exponents b (ap exponent_sign e))) (λ rest x. no_fraction x)
 zero_goes x s b text e h known = both (no_fraction no_exponent) (end_goes x s b text e h known)
 
 whole_goes : (x : Sign) (s : List Open) (b : ℕ) (text : List ℕ) → sign_of b ≡ x → Accepts s (at_number num.Whole (head_of s) x) text → Known text → NumberThen num.Whole s (b ∷ text)

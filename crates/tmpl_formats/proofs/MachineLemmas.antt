@@ -9,6 +9,9 @@ use Rattle.tmpl_formats.specs.computed.Machine.{after_step, mistake}
 pub data Then (P : List ℕ → List ℕ → Type 0) (Q : List ℕ → Type 0) : List ℕ → Type 0 where
   both : {text rest : List ℕ} → P text rest → Q rest → Then P Q text
 
+pub then_map : {P R : List ℕ → List ℕ → Type 0} {Q : List ℕ → Type 0} {text more : List ℕ} → Then P Q text → ((rest : List ℕ) → P text rest → R more rest) → Then R Q more
+then_map (both {rest} p q) f = both (f rest p) q
+
 -- a step that leads to an accepted rest
 went_on : {C : Type 0} (r : Option ℕ) (c : C) → after_step (λ (x : C). r) (Some c) ≡ None → r ≡ None
 went_on None c h = refl

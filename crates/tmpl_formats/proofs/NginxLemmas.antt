@@ -3,7 +3,7 @@ use Rattle.std.proofs.Common.{◌≡◌, ◌≢◌, inl, inr, ℕ, suc, ◌+◌,
 use Rattle.std.proofs.lemmas.Grind.{common_steps}
 use Rattle.std.specs.List.{list_all}
 use Rattle.std.specs.Prelude.{nat_lt, not}
-use Rattle.tmpl_formats.proofs.MachineLemmas.{went, passes-cons, Then, both}
+use Rattle.tmpl_formats.proofs.MachineLemmas.{went, passes-cons, Then, both, then_map}
 use Rattle.tmpl_formats.specs.Nginx.{is_gap, is_inner, is_first, is_comment, HasComment, newline, plain, HasBraces, no_brace, a_brace, HasInner, no_more, inner, escaped, dollar, HasQuoted, close, inside, inside_escaped, IsQuote, HasWord, bare, bare_escaped, bare_dollar, quoted, parenthesis, HasTail, ends as tail_ends, gap, HasMore, no_word, space, comment, word, HasBody, body_end, body_space, body_comment, last_comment, simple, block, IsNginx}
 use Rattle.tmpl_formats.specs.computed.Nginx.{sign_of, config_at, to, opened, at_word, at_tail, in_word, unless_null, after_sign, step, ends, ends_at, nginx_mistake}
 use Rattle.tmpl_formats.specs.computed.Machine.{mistake, after_step}
@@ -29,9 +29,7 @@ code_of sign.Parenthesis = 41
 code_of _ = 0
 
 abbrev is_code : Sign → Bool
-is_code sign.Gap = false
-is_code sign.Other = false
-is_code _ = true
+is_code s = not (code_of s == 0)
 
 codes_of : (b : ℕ) → is_code (sign_of b) ≡ true → b ≡ code_of (sign_of b)
 codes_of b = grind (arith, common_steps)
@@ -190,21 +188,12 @@ quoted_word : (depth quote : ℕ) (text : List ℕ) → IsQuote quote → Quoted
 quoted_word depth quote text i (both q (tail_then t)) = both (quoted i q) t
 quoted_word depth quote text i (both q (parenthesis_then (both n t))) = both (parenthesis i q n) t
 
-tail_gap : (depth b : ℕ) (text : List ℕ) → is_gap b ≡ true → MoreThen depth text → TailThen depth (b ∷ text)
-tail_gap depth b text g (both m q) = both (gap g m) q
-
-more_space : (depth b : ℕ) (text : List ℕ) → is_gap b ≡ true → MoreThen depth text → MoreThen depth (b ∷ text)
-more_space depth b text g (both m q) = both (space g m) q
-
 more_comment : (depth : ℕ) (text : List ℕ) → Then HasComment (MoreThen depth) text → MoreThen depth (35 ∷ text)
 more_comment depth text (both c (both m q)) = both (comment c m) q
 
 body_hash : (depth : ℕ) (text : List ℕ) → CommentThen depth text → BodyThen depth (35 ∷ text)
 body_hash depth text (comment_then {more} c q) = body_map depth more (35 ∷ text) (λ rest p. body_comment c p) q
 body_hash depth text (comment_ends p e) = rw e (whole (last_comment p))
-
-inner_more : (depth b : ℕ) (text : List ℕ) → is_inner b ≡ true → InnerThen depth text → InnerThen depth (b ∷ text)
-inner_more depth b text i (both n t) = both (inner i n) t
 
 inner_escaped : (depth : ℕ) (text : List ℕ) → EscapedThen (InnerThen depth) text → InnerThen depth (92 ∷ text)
 inner_escaped depth _ (escaped_then s (both n t)) = both (escaped s n) t
@@ -215,17 +204,8 @@ inner_dollar depth text (both d (both n t)) = both (dollar d n) t
 inner_ends : (depth : ℕ) (text : List ℕ) → TailThen depth text → InnerThen depth text
 inner_ends depth text t = both no_more t
 
-braces_more : (depth : ℕ) (text : List ℕ) → Then HasBraces (InnerThen depth) text → Then HasBraces (InnerThen depth) (123 ∷ text)
-braces_more depth text (both d i) = both (a_brace d) i
-
-quoted_more : (quote depth b : ℕ) (text : List ℕ) → (not (b == 0) && not (b == 92) && not (b == quote)) ≡ true → QuotedThen quote depth text → QuotedThen quote depth (b ∷ text)
-quoted_more quote depth b text i (both q t) = both (inside i q) t
-
 quoted_escaped : (quote depth : ℕ) (text : List ℕ) → EscapedThen (QuotedThen quote depth) text → QuotedThen quote depth (92 ∷ text)
 quoted_escaped quote depth _ (escaped_then s (both q t)) = both (inside_escaped s q) t
-
-comment_more : (Q : List ℕ → Type 0) (b : ℕ) (text : List ℕ) → is_comment b ≡ true → Then HasComment Q text → Then HasComment Q (b ∷ text)
-comment_more Q b text c (both p q) = both (plain c p) q
 
 start_comment_more : (depth b : ℕ) (text : List ℕ) → is_comment b ≡ true → CommentThen depth text → CommentThen depth (b ∷ text)
 start_comment_more depth b text c (comment_then p q) = comment_then (plain c p) q
@@ -288,15 +268,15 @@ brace_stops : (depth b : ℕ) (text : List ℕ) → sign_of b ≡ sign.Open → 
 brace_stops depth b text e h known = rw (byte_of sign.Open b e refl) (brace (on_open (nat_lt (depth + 1) (2 ^ 64)) depth text known h))
 
 tail_goes : (x : Sign) (depth b : ℕ) (text : List ℕ) → sign_of b ≡ x → Accepts (at_tail depth x) text → Known text → TailThen depth (b ∷ text)
-tail_goes sign.Newline depth b text e h known = tail_gap depth b text (gaps b (ap gap_sign e)) (on at.Gap depth text known h)
-tail_goes sign.Gap depth b text e h known = tail_gap depth b text (gaps b (ap gap_sign e)) (on at.Gap depth text known h)
+tail_goes sign.Newline depth b text e h known = then_map (on at.Gap depth text known h) (λ rest m. gap (gaps b (ap gap_sign e)) m)
+tail_goes sign.Gap depth b text e h known = then_map (on at.Gap depth text known h) (λ rest m. gap (gaps b (ap gap_sign e)) m)
 tail_goes sign.Semicolon depth b text e h known = both tail_ends (semicolon_stops depth b text e h known)
 tail_goes sign.Open depth b text e h known = both tail_ends (brace_stops depth b text e h known)
 tail_goes _ depth b text e h known = cc
 
 gap_goes : (x : Sign) (depth b : ℕ) (text : List ℕ) → sign_of b ≡ x → Accepts (after_sign at.Gap depth x) text → Known text → MoreThen depth (b ∷ text)
-gap_goes sign.Newline depth b text e h known = more_space depth b text (gaps b (ap gap_sign e)) (on at.Gap depth text known h)
-gap_goes sign.Gap depth b text e h known = more_space depth b text (gaps b (ap gap_sign e)) (on at.Gap depth text known h)
+gap_goes sign.Newline depth b text e h known = then_map (on at.Gap depth text known h) (λ rest m. space (gaps b (ap gap_sign e)) m)
+gap_goes sign.Gap depth b text e h known = then_map (on at.Gap depth text known h) (λ rest m. space (gaps b (ap gap_sign e)) m)
 gap_goes sign.Semicolon depth b text e h known = both no_word (semicolon_stops depth b text e h known)
 gap_goes sign.Open depth b text e h known = both no_word (brace_stops depth b text e h known)
 gap_goes sign.Hash depth b text e h known = rw (byte_of sign.Hash b e refl) (more_comment depth text (on at.GapComment depth text known h))
@@ -310,10 +290,10 @@ inner_goes sign.Semicolon depth b text e h known = inner_ends depth (b ∷ text)
 inner_goes sign.Open depth b text e h known = inner_ends depth (b ∷ text) (tail_goes sign.Open depth b text e h known)
 inner_goes sign.Backslash depth b text e h known = rw (byte_of sign.Backslash b e refl) (inner_escaped depth text (on at.Escape depth text known h))
 inner_goes sign.Dollar depth b text e h known = rw (byte_of sign.Dollar b e refl) (inner_dollar depth text (on at.Dollar depth text known h))
-inner_goes _ depth b text e h known = inner_more depth b text (inners b (ap inner_sign e)) (on at.Word depth text known h)
+inner_goes _ depth b text e h known = then_map (on at.Word depth text known h) (λ rest m. inner (inners b (ap inner_sign e)) m)
 
 dollar_goes : (x : Sign) (depth b : ℕ) (text : List ℕ) → sign_of b ≡ x → Accepts (after_sign at.Dollar depth x) text → Known text → Then HasBraces (InnerThen depth) (b ∷ text)
-dollar_goes sign.Open depth b text e h known = rw (byte_of sign.Open b e refl) (braces_more depth text (on at.Dollar depth text known h))
+dollar_goes sign.Open depth b text e h known = rw (byte_of sign.Open b e refl) (then_map (on at.Dollar depth text known h) (λ rest d. a_brace d))
 dollar_goes x depth b text e h known = both no_brace (inner_goes x depth b text e h known)
 
 escape_goes : (x : Sign) (q : Control) (depth b : ℕ) (text : List ℕ) → sign_of b ≡ x → Accepts (unless_null q depth x) text → Known text
@@ -325,13 +305,13 @@ double_goes : (x : Sign) (depth b : ℕ) (text : List ℕ) → sign_of b ≡ x �
 double_goes sign.Null depth b text e h known = cc
 double_goes sign.Double depth b text e h known = rw (byte_of sign.Double b e refl) (both close (on at.Closed depth text known h))
 double_goes sign.Backslash depth b text e h known = rw (byte_of sign.Backslash b e refl) (quoted_escaped 34 depth text (on at.DoubleEscape depth text known h))
-double_goes _ depth b text e h known = quoted_more 34 depth b text (doubles b (ap double_sign e)) (on at.Double depth text known h)
+double_goes _ depth b text e h known = then_map (on at.Double depth text known h) (λ rest q. inside (doubles b (ap double_sign e)) q)
 
 single_goes : (x : Sign) (depth b : ℕ) (text : List ℕ) → sign_of b ≡ x → Accepts (after_sign at.Single depth x) text → Known text → QuotedThen 39 depth (b ∷ text)
 single_goes sign.Null depth b text e h known = cc
 single_goes sign.Single depth b text e h known = rw (byte_of sign.Single b e refl) (both close (on at.Closed depth text known h))
 single_goes sign.Backslash depth b text e h known = rw (byte_of sign.Backslash b e refl) (quoted_escaped 39 depth text (on at.SingleEscape depth text known h))
-single_goes _ depth b text e h known = quoted_more 39 depth b text (singles b (ap single_sign e)) (on at.Single depth text known h)
+single_goes _ depth b text e h known = then_map (on at.Single depth text known h) (λ rest q. inside (singles b (ap single_sign e)) q)
 
 quote_goes : (x : Sign) (depth b : ℕ) (text : List ℕ) → sign_of b ≡ x → Accepts (after_sign at.Closed depth x) text → Known text → QuoteThen depth (b ∷ text)
 quote_goes sign.Parenthesis depth b text e h known = rw (byte_of sign.Parenthesis b e refl) (parenthesis_then (on at.Word depth text known h))
@@ -347,7 +327,7 @@ gap_comment_goes : (x : Sign) (depth b : ℕ) (text : List ℕ) → sign_of b �
     → Then HasComment (MoreThen depth) (b ∷ text)
 gap_comment_goes sign.Null depth b text e h known = cc
 gap_comment_goes sign.Newline depth b text e h known = rw (byte_of sign.Newline b e refl) (both newline (on at.Gap depth text known h))
-gap_comment_goes _ depth b text e h known = comment_more (MoreThen depth) b text (comments b (ap comment_sign e)) (on at.GapComment depth text known h)
+gap_comment_goes _ depth b text e h known = then_map (on at.GapComment depth text known h) (λ rest p. plain (comments b (ap comment_sign e)) p)
 
 byte_goes : (q : Control) (depth b : ℕ) (text : List ℕ) → Accepts (after_sign q depth (sign_of b)) text → Known text → Goes q depth (b ∷ text)
 byte_goes at.Start depth b text h known = start_goes (sign_of b) depth b text refl h known

@@ -2,9 +2,9 @@
 use Rattle.std.proofs.Common.{◌≡◌, ℕ, ◌==◌, Bool, true, false, cond, ◌&&◌, List, [], ◌∷◌, ◌++◌, Option, Some, None, refl, ap, arith}
 use Rattle.std.proofs.lemmas.Grind.{common_steps}
 use Rattle.std.specs.Prelude.{option_map, not}
-use Rattle.tmpl_formats.proofs.MachineLemmas.{went}
+use Rattle.tmpl_formats.proofs.MachineLemmas.{both, went}
 use Rattle.tmpl_formats.proofs.YamlNestLemmas.{Left, left_end, documents_of}
-use Rattle.tmpl_formats.proofs.YamlLineLemmas.{Rest, rest_of, after, Goes, Moved, Went, byte_goes}
+use Rattle.tmpl_formats.proofs.YamlLineLemmas.{Rest, rest_of, Goes, Moved, Went, byte_goes}
 use Rattle.tmpl_formats.specs.Yaml.{ends as tokens_end, no_line, empty, IsYaml}
 use Rattle.tmpl_formats.specs.YamlScalar.{is_unprintable, is_printable}
 use Rattle.tmpl_formats.specs.computed.Machine.{mistake, after_step}
@@ -78,8 +78,8 @@ margin_ends _ c n e f = cc
 
 control_ends : (q : Control) (s : List ℕ) (n : Nest) → begins_line q ≡ true → head_of n.brackets ≡ None → Goes q s (Left n) n.brackets []
 control_ends (at.At x) s n e f = margin_ends x.place x.column n e f
-control_ends (at.Block parent c) s n e f = rw (same_of c 0 e) (after empty (line_ends n f))
-control_ends (at.Indent parent own c) s n e f = rw (same_of c 0 e) (after no_line (line_ends n f))
+control_ends (at.Block parent c) s n e f = rw (same_of c 0 e) (both empty (line_ends n f))
+control_ends (at.Indent parent own c) s n e f = rw (same_of c 0 e) (both no_line (line_ends n f))
 control_ends _ s n e f = cc
 
 no_bracket_of : (bs : List Bracket) (n : Nest) → (n.brackets ≡ bs) → not (is_in_brackets (nest_at n.awaited n.levels bs)) ≡ true → head_of n.brackets ≡ None

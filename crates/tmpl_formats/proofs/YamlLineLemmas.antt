@@ -4,6 +4,7 @@ use Rattle.std.proofs.lemmas.Grind.{common_steps}
 use Rattle.std.proofs.lemmas.Slice.Eq.{bytes_eq-Decides}
 use Rattle.std.specs.List.{list_all}
 use Rattle.std.specs.Prelude.{not, option_and_then}
+use Rattle.tmpl_formats.proofs.MachineLemmas.{Then, both, then_map}
 use Rattle.tmpl_formats.proofs.YamlNestLemmas.{Left, Fits, happened_fits, tokens_of}
 use Rattle.tmpl_formats.specs.Yaml.{HasLine, line_end, a_byte, HasBlank, blank_end, a_space, HasHeader, clipped, chomped, spaces, HasLines, no_line, blank, line, HasBlock, empty, first_blank, first_line, IsGap, gap_end, gap_space, is_flow, takes_values, takes_keys, parent_of, after_key, after_value, MayFollow, opening, closing, HasTokens, newline, space, comment, marker, item, key, quoted_key, scalar, block, open_, comma, close, close_last}
 use Rattle.tmpl_formats.specs.YamlScalar.{is_start, passes, may_follow, is_sign, is_plain, is_escape, digits_after, is_character, HasDigits, complete, digit, HasDouble, close_double, plain_double, escape, coded, HasSingle, close_single, plain_single, doubled, HasQuoted, double, single, HasScalar, plain, quoted}
@@ -45,11 +46,9 @@ code_of (sign.Close k) = closing k
 code_of _ = 0
 
 abbrev is_code : Sign → Bool
-is_code sign.Mark = false
-is_code sign.Start = false
-is_code sign.Lead = false
-is_code sign.Other = false
-is_code _ = true
+is_code (sign.Open k) = true
+is_code (sign.Close k) = true
+is_code s = not (code_of s == 0)
 
 same_of : (a b : ℕ) → (a == b) ≡ true → a ≡ b
 same_of a b = grind (arith, common_steps)
@@ -120,10 +119,6 @@ texts b = grind (arith, common_steps)
 pub data Rest (p : Place) (c : ℕ) (L : List Token → Type 0) (text : List ℕ) : Type 0 where
   rest_of : {ts : List Token} → HasTokens p c text ts → L ts → Rest p c L text
 
--- one thing and then another
-pub data After (P : List ℕ → List ℕ → Type 0) (Q : List ℕ → Type 0) : List ℕ → Type 0 where
-  after : {text rest : List ℕ} → P text rest → Q rest → After P Q text
-
 -- after a closing bracket
 abbrev ClosedAt : List Bracket → (List Token → Type 0) → List ℕ → Type 0
 ClosedAt [] L text = IsGap text × Rest place.End 0 L text
@@ -147,10 +142,10 @@ abbrev LineRest : (List Token → Type 0) → List ℕ → Type 0
 LineRest L text = Rest place.Line 0 L text
 
 abbrev BlockRest : ℕ → (List Token → Type 0) → List ℕ → Type 0
-BlockRest parent L text = After (HasBlock parent) (LineRest L) text
+BlockRest parent L text = Then (HasBlock parent) (LineRest L) text
 
 abbrev LinesRest : ℕ → (List Token → Type 0) → List ℕ → Type 0
-LinesRest own L text = After (HasLines own) (LineRest L) text
+LinesRest own L text = Then (HasLines own) (LineRest L) text
 
 -- a plain scalar is written out before the text; the brackets matter after one
 abbrev pub Goes : Control → List ℕ → (List Token → Type 0) → List Bracket → List ℕ → Type 0
@@ -158,7 +153,7 @@ Goes (at.At x) s L bs text = Rest x.place x.column L text
 Goes (at.Dash x) s L bs text = Rest x.place x.column L (45 ∷ text)
 Goes at.Dashes s L bs text = Rest place.Line 0 L (45 ∷ 45 ∷ text)
 Goes at.Closed s L bs text = ClosedAt bs L text
-Goes at.Comment s L bs text = After HasLine (LineRest L) text
+Goes at.Comment s L bs text = Then HasLine (LineRest L) text
 Goes (at.Plain x) s L bs text = Rest x.place x.column L (s ++ text)
 Goes (at.PlainColon x end) s L bs text = Rest x.place x.column L (s ++ text)
 Goes (at.PlainSpace x end) s L bs text = Rest x.place x.column L (s ++ text)
@@ -169,19 +164,19 @@ Goes (at.Single x) s L bs text = SingleRest x L text
 Goes (at.Quote x) s L bs text = SingleRest x L (39 ∷ text)
 Goes (at.Quoted x) s L bs text = QuotedRest x L text
 Goes (at.QuotedColon x) s L bs text = QuotedRest x L (58 ∷ text)
-Goes (at.Header parent) s L bs text = After HasHeader (BlockRest parent L) text
-Goes (at.HeaderEnd parent) s L bs text = After HasBlank (BlockRest parent L) text
+Goes (at.Header parent) s L bs text = Then HasHeader (BlockRest parent L) text
+Goes (at.HeaderEnd parent) s L bs text = Then HasBlank (BlockRest parent L) text
 Goes (at.Block parent c) s L bs text = BlockRest parent L (spaces c ++ text)
 Goes (at.Indent parent own c) s L bs text = LinesRest own L (spaces c ++ text)
-Goes (at.Text parent own) s L bs text = After HasLine (LinesRest own L) text
+Goes (at.Text parent own) s L bs text = Then HasLine (LinesRest own L) text
 
 -- ---- a test for another
 
 rest_map : (p : Place) (c : ℕ) (L M : List Token → Type 0) (text : List ℕ) → ((ts : List Token) → L ts → M ts) → Rest p c L text → Rest p c M text
 rest_map p c L M text f (rest_of {ts} h l) = rest_of h (f ts l)
 
-after_map : {P : List ℕ → List ℕ → Type 0} (Q R : List ℕ → Type 0) (text : List ℕ) → ((rest : List ℕ) → Q rest → R rest) → After P Q text → After P R text
-after_map Q R text f (after {rest} p q) = after p (f rest q)
+after_map : {P : List ℕ → List ℕ → Type 0} (Q R : List ℕ → Type 0) (text : List ℕ) → ((rest : List ℕ) → Q rest → R rest) → Then P Q text → Then P R text
+after_map Q R text f (both {rest} p q) = both p (f rest q)
 
 closed_map : (bs : List Bracket) (L M : List Token → Type 0) (text : List ℕ) → ((ts : List Token) → L ts → M ts) → ClosedAt bs L text → ClosedAt bs M text
 closed_map [] L M text f h = (h.0, rest_map place.End 0 L M text f h.1)
@@ -315,7 +310,7 @@ single_reached p c s L text (reaches bs h) = h (39 ∷ text) (λ rest d. single 
 
 header_reached : (p : Place) (c parent b : ℕ) (s : List ℕ) (n : Nest) (text : List ℕ) → parent_of p ≡ Some parent → (b == 124 || b == 62) ≡ true
     → Reaches (at.Header parent) s (Before (event.One (token.Scalar c)) n) text → Rest p c (Left n) (b ∷ text)
-header_reached p c parent b s n text e m (reaches bs (after h (after l (rest_of t left)))) = rest_of (block e m h l t) left
+header_reached p c parent b s n text e m (reaches bs (both h (both l (rest_of t left)))) = rest_of (block e m h l t) left
 
 mark_goes : (r : Option ℕ) (p : Place) (c b : ℕ) (s : List ℕ) (n : Nest) (text : List ℕ) → parent_of p ≡ r → (b == 124 || b == 62) ≡ true → Went (option_and_then (λ parent. to (at.Header parent) (event.One (token.Scalar c))) r) s n text
     → Rest p c (Left n) (b ∷ text)
@@ -363,8 +358,8 @@ flow_goes x c b s n text i h = node_goes x place.Flow c b s n text i refl h
 
 -- ---- on a line
 
-comment_rest : (p : Place) (c : ℕ) (L : List Token → Type 0) (text : List ℕ) → is_flow p ≡ false → After HasLine (LineRest L) text → Rest p c L (35 ∷ text)
-comment_rest p c L text f (after l (rest_of h left)) = rest_of (comment f l h) left
+comment_rest : (p : Place) (c : ℕ) (L : List Token → Type 0) (text : List ℕ) → is_flow p ≡ false → Then HasLine (LineRest L) text → Rest p c L (35 ∷ text)
+comment_rest p c L text f (both l (rest_of h left)) = rest_of (comment f l h) left
 
 line_goes : (x : Sign) (p : Place) (c b : ℕ) (s : List ℕ) (n : Nest) (text : List ℕ) → sign_of b ≡ x → is_flow p ≡ false → Went (on_line (spot_at p c) x b) s n text
     → Rest p c (Left n) (b ∷ text)
@@ -520,12 +515,9 @@ closed_goes : (x : Sign) (bs : List Bracket) (n : Nest) (b : ℕ) (s : List ℕ)
 closed_goes x [] n b s text i e h = gap_goes x place.End 0 event.Nothing b s n text i h
 closed_goes x (k ∷ bs) n b s text i e h = flow_goes x 0 b s n text i h
 
-comment_more : (b : ℕ) (Q : List ℕ → Type 0) (text : List ℕ) → not (b == 10) ≡ true → After HasLine Q text → After HasLine Q (b ∷ text)
-comment_more b Q text e (after h q) = after (a_byte e h) q
-
-comment_goes : (x : Sign) (b : ℕ) (s : List ℕ) (n : Nest) (text : List ℕ) → sign_of b ≡ x → Went (in_comment x) s n text → After HasLine (LineRest (Left n)) (b ∷ text)
-comment_goes sign.Newline b s n text i h = rw (byte_of sign.Newline b i refl) (after line_end h)
-comment_goes x b s n text i h = comment_more b (LineRest (Left n)) text (no_newlines b (ap line_sign i)) h
+comment_goes : (x : Sign) (b : ℕ) (s : List ℕ) (n : Nest) (text : List ℕ) → sign_of b ≡ x → Went (in_comment x) s n text → Then HasLine (LineRest (Left n)) (b ∷ text)
+comment_goes sign.Newline b s n text i h = rw (byte_of sign.Newline b i refl) (both line_end h)
+comment_goes x b s n text i h = then_map h (λ rest l. a_byte (no_newlines b (ap line_sign i)) l)
 
 -- ---- plain scalars
 
@@ -640,10 +632,10 @@ no_flow_after : (p : Place) → is_flow p ≡ false → is_flow (after_value p) 
 no_flow_after place.Flow e = cc
 no_flow_after _ e = refl
 
-comment_any : (p : Place) (L : List Token → Type 0) (text : List ℕ) → is_flow p ≡ false → After HasLine (LineRest L) text → AnyRest p L (35 ∷ text)
-comment_any p L text f (after l (rest_of h left)) = any_of (λ j. comment f l h) left
+comment_any : (p : Place) (L : List Token → Type 0) (text : List ℕ) → is_flow p ≡ false → Then HasLine (LineRest L) text → AnyRest p L (35 ∷ text)
+comment_any p L text f (both l (rest_of h left)) = any_of (λ j. comment f l h) left
 
-comment_reached : (s : List ℕ) (L : List Token → Type 0) (text : List ℕ) → Reaches at.Comment s L text → After HasLine (LineRest L) text
+comment_reached : (s : List ℕ) (L : List Token → Type 0) (text : List ℕ) → Reaches at.Comment s L text → Then HasLine (LineRest L) text
 comment_reached s L text (reaches bs h) = h
 
 spaced_comment : (t u v : Bool) (p : Place) (c end b : ℕ) (s : List ℕ) (n : Nest) (text : List ℕ) → b ≡ 35 → is_spaced_scalar (is_flow p) s end ≡ t → takes_values p ≡ u
@@ -734,25 +726,16 @@ quoted_key_goes z x b s n text i h =
 
 -- ---- block scalars
 
-blank_more : (Q : List ℕ → Type 0) (text : List ℕ) → After HasBlank Q text → After HasBlank Q (32 ∷ text)
-blank_more Q text (after h q) = after (a_space h) q
-
 header_end_goes : (x : Sign) (parent b : ℕ) (s : List ℕ) (n : Nest) (text : List ℕ) → sign_of b ≡ x → Went (at_header_end parent x) s n text
-    → After HasBlank (BlockRest parent (Left n)) (b ∷ text)
-header_end_goes sign.Space parent b s n text i h = rw (byte_of sign.Space b i refl) (blank_more (BlockRest parent (Left n)) text h)
-header_end_goes sign.Newline parent b s n text i h = rw (byte_of sign.Newline b i refl) (after blank_end h)
+    → Then HasBlank (BlockRest parent (Left n)) (b ∷ text)
+header_end_goes sign.Space parent b s n text i h = rw (byte_of sign.Space b i refl) (then_map h (λ rest l. a_space l))
+header_end_goes sign.Newline parent b s n text i h = rw (byte_of sign.Newline b i refl) (both blank_end h)
 header_end_goes _ parent b s n text i h = absurd h
 
-chomp : (Q : List ℕ → Type 0) (b : ℕ) (text : List ℕ) → is_sign b ≡ true → After HasBlank Q text → After HasHeader Q (b ∷ text)
-chomp Q b text e (after h q) = after (chomped e h) q
-
-clip : (Q : List ℕ → Type 0) (text : List ℕ) → After HasBlank Q text → After HasHeader Q text
-clip Q text (after h q) = after (clipped h) q
-
 header_goes : (t : Bool) (parent b : ℕ) (s : List ℕ) (n : Nest) (text : List ℕ) → is_sign b ≡ t
-    → Went (cond t (to (at.HeaderEnd parent) event.Nothing) (at_header_end parent (sign_of b))) s n text → After HasHeader (BlockRest parent (Left n)) (b ∷ text)
-header_goes true parent b s n text e h = chomp (BlockRest parent (Left n)) b text e h
-header_goes false parent b s n text e h = clip (BlockRest parent (Left n)) (b ∷ text) (header_end_goes (sign_of b) parent b s n text refl h)
+    → Went (cond t (to (at.HeaderEnd parent) event.Nothing) (at_header_end parent (sign_of b))) s n text → Then HasHeader (BlockRest parent (Left n)) (b ∷ text)
+header_goes true parent b s n text e h = then_map h (λ rest l. chomped e l)
+header_goes false parent b s n text e h = then_map (header_end_goes (sign_of b) parent b s n text refl h) (λ rest l. clipped l)
 
 more_spaces : (c : ℕ) (text : List ℕ) → spaces (suc c) ++ text ≡ spaces c ++ 32 ∷ text
 more_spaces zero text = refl
@@ -767,7 +750,7 @@ few_spaces c parent = grind (arith, common_steps)
 
 blank_first : (t : Bool) (parent c : ℕ) (s : List ℕ) (n : Nest) (text : List ℕ) → ((c == 0) || nat_le (c - 1) parent) ≡ t
     → Went (cond t (to (at.Block parent 0) event.Nothing) None) s n text → BlockRest parent (Left n) (spaces c ++ 10 ∷ text)
-blank_first true parent c s n text e (after h q) = after (first_blank c (few_spaces c parent e) h) q
+blank_first true parent c s n text e (both h q) = both (first_blank c (few_spaces c parent e) h) q
 blank_first false parent c s n text e h = absurd h
 
 block_space : (parent c : ℕ) (s : List ℕ) (n : Nest) (text : List ℕ) → Went (in_block parent c sign.Space 32) s n text → BlockRest parent (Left n) (spaces c ++ 32 ∷ text)
@@ -777,13 +760,13 @@ greater : (a b : ℕ) → nat_le a b ≡ false → b < a
 greater a b = grind (arith, common_steps)
 
 begun_block : (parent c b : ℕ) (L : List Token → Type 0) (text : List ℕ) → parent < c → (not (b == 32) && not (b == 9) && not (b == 10)) ≡ true
-    → After HasLine (LinesRest c L) text → BlockRest parent L (spaces c ++ b ∷ text)
-begun_block parent c b L text lt e (after h (after hs q)) = after (first_line c b lt e h hs) q
+    → Then HasLine (LinesRest c L) text → BlockRest parent L (spaces c ++ b ∷ text)
+begun_block parent c b L text lt e (both h (both hs q)) = both (first_line c b lt e h hs) q
 
 first_text_goes : (t u : Bool) (x : Sign) (parent c b : ℕ) (s : List ℕ) (n : Nest) (text : List ℕ) → sign_of b ≡ x → text_sign x ≡ true → nat_le c parent ≡ t
     → (b == 9) ≡ u → Went (cond t (at_place (spot_at place.Line c) x b) (cond u None (to (at.Text parent c) event.Nothing))) s n text
     → BlockRest parent (Left n) (spaces c ++ b ∷ text)
-first_text_goes true u x parent c b s n text i j e f h = after empty (spaced_line c (Left n) (b ∷ text) (place_goes place.Line x c b s n text i h))
+first_text_goes true u x parent c b s n text i j e f h = both empty (spaced_line c (Left n) (b ∷ text) (place_goes place.Line x c b s n text i h))
 first_text_goes false true x parent c b s n text i j e f h = absurd h
 first_text_goes false false x parent c b s n text i j e f h =
     begun_block parent c b (Left n) text (greater c parent e) (texts b (ap text_sign i ∙ j) f) h
@@ -794,11 +777,8 @@ block_goes sign.Newline parent c b s n text i h = rw (byte_of sign.Newline b i r
 block_goes sign.Space parent c b s n text i h = rw (byte_of sign.Space b i refl) (block_space parent c s n text h)
 block_goes x parent c b s n text i h = first_text_goes (nat_le c parent) (b == 9) x parent c b s n text i refl refl refl h
 
-blank_rest : (own c : ℕ) (L : List Token → Type 0) (text : List ℕ) → LinesRest own L text → LinesRest own L (spaces c ++ 10 ∷ text)
-blank_rest own c L text (after h q) = after (blank c h) q
-
-line_rest : (own b : ℕ) (L : List Token → Type 0) (text : List ℕ) → not (b == 10) ≡ true → After HasLine (LinesRest own L) text → LinesRest own L (spaces own ++ b ∷ text)
-line_rest own b L text e (after h (after hs q)) = after (line (a_byte e h) hs) q
+line_rest : (own b : ℕ) (L : List Token → Type 0) (text : List ℕ) → not (b == 10) ≡ true → Then HasLine (LinesRest own L) text → LinesRest own L (spaces own ++ b ∷ text)
+line_rest own b L text e (both h (both hs q)) = both (line (a_byte e h) hs) q
 
 indent_space : (parent own c : ℕ) (s : List ℕ) (n : Nest) (text : List ℕ) → Went (before_indent parent own c sign.Space 32) s n text → LinesRest own (Left n) (spaces c ++ 32 ∷ text)
 indent_space parent own c s n text h = rw (← more_spaces c text) (next_goes c (λ d. to (at.Indent parent own d) event.Nothing) s n text h)
@@ -808,7 +788,7 @@ before_goes : (x : Sign) (parent own c b : ℕ) (s : List ℕ) (n : Nest) (text 
 before_goes sign.Space parent own c b s n text i h = rw (byte_of sign.Space b i refl) (indent_space parent own c s n text h)
 before_goes x parent own c b s n text i h =
     let g = guarded (nat_le c parent) (at_place (spot_at place.Line c) x b) s n text h in
-    after no_line (spaced_line c (Left n) (b ∷ text) (place_goes place.Line x c b s n text i g.1))
+    both no_line (spaced_line c (Left n) (b ∷ text) (place_goes place.Line x c b s n text i g.1))
 
 text_or_goes : (t : Bool) (x : Sign) (parent own c b : ℕ) (s : List ℕ) (n : Nest) (text : List ℕ) → sign_of b ≡ x → line_sign x ≡ true → (c == own) ≡ t
     → Went (cond t (to (at.Text parent own) event.Nothing) (before_indent parent own c x b)) s n text → LinesRest own (Left n) (spaces c ++ b ∷ text)
@@ -817,13 +797,13 @@ text_or_goes false x parent own c b s n text i j e h = before_goes x parent own 
 
 indent_goes : (x : Sign) (parent own c b : ℕ) (s : List ℕ) (n : Nest) (text : List ℕ) → sign_of b ≡ x → Went (in_indent parent own c x b) s n text
     → LinesRest own (Left n) (spaces c ++ b ∷ text)
-indent_goes sign.Newline parent own c b s n text i h = rw (byte_of sign.Newline b i refl) (blank_rest own c (Left n) text h)
+indent_goes sign.Newline parent own c b s n text i h = rw (byte_of sign.Newline b i refl) (then_map h (λ rest ls. blank c ls))
 indent_goes x parent own c b s n text i h = text_or_goes (c == own) x parent own c b s n text i refl refl h
 
 text_goes : (x : Sign) (parent own b : ℕ) (s : List ℕ) (n : Nest) (text : List ℕ) → sign_of b ≡ x → Went (in_text parent own x) s n text
-    → After HasLine (LinesRest own (Left n)) (b ∷ text)
-text_goes sign.Newline parent own b s n text i h = rw (byte_of sign.Newline b i refl) (after line_end h)
-text_goes x parent own b s n text i h = comment_more b (LinesRest own (Left n)) text (no_newlines b (ap line_sign i)) h
+    → Then HasLine (LinesRest own (Left n)) (b ∷ text)
+text_goes sign.Newline parent own b s n text i h = rw (byte_of sign.Newline b i refl) (both line_end h)
+text_goes x parent own b s n text i h = then_map h (λ rest l. a_byte (no_newlines b (ap line_sign i)) l)
 
 -- ---- each control
 

@@ -40,31 +40,19 @@ abbrev pub at_field : ℕ → ℕ → Sign → Option Place
 at_field columns fields sign.Quote = Some (at.Quoted fields)
 at_field columns fields s = after_bare columns fields s
 
-abbrev pub after_start : ℕ → Sign → Option Place
-after_start columns sign.Newline = None
-after_start columns sign.Return = None
-after_start columns s = at_field columns 0 s
-
-abbrev pub after_quoted : ℕ → Sign → Option Place
-after_quoted fields sign.Null = None
-after_quoted fields sign.Quote = Some (at.Quote fields)
-after_quoted fields _ = Some (at.Quoted fields)
-
-abbrev pub after_quote : ℕ → ℕ → Sign → Option Place
-after_quote columns fields sign.Quote = Some (at.Quoted fields)
-after_quote columns fields s = after_field columns fields s
-
-abbrev pub after_return : Sign → Option Place
-after_return sign.Newline = Some at.Start
-after_return _ = None
-
 abbrev pub after_sign : ℕ → Place → Sign → Option Place
-after_sign columns at.Start s = after_start columns s
+after_sign columns at.Start sign.Newline = None
+after_sign columns at.Start sign.Return = None
+after_sign columns at.Start s = at_field columns 0 s
 after_sign columns (at.Field fields) s = at_field columns fields s
 after_sign columns (at.Bare fields) s = after_bare columns fields s
-after_sign columns (at.Quoted fields) s = after_quoted fields s
-after_sign columns (at.Quote fields) s = after_quote columns fields s
-after_sign columns at.Return s = after_return s
+after_sign columns (at.Quoted fields) sign.Null = None
+after_sign columns (at.Quoted fields) sign.Quote = Some (at.Quote fields)
+after_sign columns (at.Quoted fields) _ = Some (at.Quoted fields)
+after_sign columns (at.Quote fields) sign.Quote = Some (at.Quoted fields)
+after_sign columns (at.Quote fields) s = after_field columns fields s
+after_sign columns at.Return sign.Newline = Some at.Start
+after_sign columns at.Return _ = None
 
 abbrev pub csv_at : ℕ → Place → Csv
 csv_at columns place = record { columns = columns; place = place }
