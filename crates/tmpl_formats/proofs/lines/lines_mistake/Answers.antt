@@ -35,8 +35,7 @@ loop-offset-preserved c =
     ]
 
 pub returns-then-start-text : goal.returns-then-start-text
-returns-then-start-text c =
-    text-ends (marks_of c.args.pattern.now.root) c.args.text.now c.loop-offset.start c.loop-offset.offset (omega arith) c.loop-offset.invariant c.if-start-text.true
+returns-then-start-text c = text-ends _ _ _ _ (omega arith) c.loop-offset.invariant c.if-start-text.true
 
 pub moved-requires-in-Some-2 : goal.moved-requires-in-Some-2
 moved-requires-in-Some-2 c =
@@ -51,6 +50,4 @@ returns-in-Some-2 c =
     c.if-start-text.false (rw c.in-Some-2.is at c.in_ok-mistake-2.ensures)
 
 pub returns-in-None : goal.returns-in-None
-returns-in-None c =
-    last-line (marks_of c.args.pattern.now.root) c.args.text.now c.loop-offset.start c.loop-offset.offset None (omega arith) c.loop-offset.invariant
-    c.if-start-text.false (rw c.in-None.is at c.in_ok-mistake-2.ensures)
+returns-in-None c = last-line _ _ _ _ None (omega arith) c.loop-offset.invariant c.if-start-text.false (rw c.in-None.is at c.in_ok-mistake-2.ensures)
