@@ -179,14 +179,12 @@ NumberThen num.Power s text = Then HasDigits (Behind s) text
 
 -- the machine is at a bracket of an array, and of an object
 abbrev InArray : (List Open → List ℕ → Type 0) → List Open → List ℕ → Type 0
-InArray P [] text = Unit {0}
 InArray P (open_.Array ∷ s) text = P s text
-InArray P (open_.Object ∷ s) text = Unit {0}
+InArray P _ text = Unit {0}
 
 abbrev InObject : (List Open → List ℕ → Type 0) → List Open → List ℕ → Type 0
-InObject P [] text = Unit {0}
-InObject P (open_.Array ∷ s) text = Unit {0}
 InObject P (open_.Object ∷ s) text = P s text
+InObject P _ text = Unit {0}
 
 abbrev Goes : Control → List Open → List ℕ → Type 0
 Goes at.Value s text = ValueThen s text
@@ -566,14 +564,8 @@ number_goes num.Power s b text h known = power_goes (sign_of b) s b text refl h 
 
 byte_goes : (q : Control) (s : List Open) (b : ℕ) (text : List ℕ) → Accepts s (after q (head_of s) b) text → Known text → Goes q s (b ∷ text)
 byte_goes at.Value s b text h known = value_goes (sign_of b) s b text refl h known
-byte_goes at.Item [] b text h known = tt
 byte_goes at.Item (open_.Array ∷ s) b text h known = item_goes (sign_of b) s b text refl h known
-byte_goes at.Item (open_.Object ∷ s) b text h known = tt
-byte_goes at.Member [] b text h known = tt
-byte_goes at.Member (open_.Array ∷ s) b text h known = tt
 byte_goes at.Member (open_.Object ∷ s) b text h known = member_goes (sign_of b) s b text refl h known
-byte_goes at.Key [] b text h known = tt
-byte_goes at.Key (open_.Array ∷ s) b text h known = tt
 byte_goes at.Key (open_.Object ∷ s) b text h known = key_goes (sign_of b) s b text refl h known
 byte_goes at.Colon s b text h known = colon_goes (sign_of b) s b text refl h known
 byte_goes at.End s b text h known = end_goes (sign_of b) s b text refl h known
@@ -581,6 +573,7 @@ byte_goes (at.Text r) s b text h known = text_goes (sign_of b) r s b text refl h
 byte_goes (at.Escape r x) s b text h known = escape_goes x r s b text h known
 byte_goes (at.Literal x) s b text h known = literal_goes x s b text h known
 byte_goes (at.Number n) s b text h known = number_goes n s b text h known
+byte_goes _ _ b text h known = tt
 
 -- a text ends where a value may end and nothing is open
 ended_so : (o : Option Open) (q : Control) → cond {A = Option ℕ} (is_empty o && ends_value q) None (Some 0) ≡ None → (o ≡ None) × (ends_value q ≡ true)

@@ -4,9 +4,7 @@ use Rattle.std.proofs.lemmas.Grind.{common_steps}
 use Rattle.json.specs.Json as tree
 use Rattle.json.specs.Json.{Json, Items, Members, after_end_array, items, members, value}
 use Rattle.json.specs.Lex as lexer
-use Rattle.json.specs.Lex.{lex, class, Lexeme, Place, punctuate, begins_colon, may_begin, place_token, tokens}
-use Rattle.json.specs.Text as kit_text
-use Rattle.json.specs.Text.{content}
+use Rattle.json.specs.Lex.{lex, lex_byte, class, Lexeme, Place, punctuate, begins_colon, may_begin, place_token, tokens}
 use Rattle.json.specs.Token as kit
 use Rattle.json.specs.Token.{Token}
 use Rattle.json.specs.Word.{is_operator, is_space}
@@ -168,34 +166,10 @@ object_placed p ls m = placed p kit.begin_object ls ∙ rw m refl
 key_placed : (p : Place) (s : List ℕ) (ls : List Lexeme) → may_begin p ≡ true → punctuate p (lexer.token (kit.string s) ∷ lexer.colon ∷ ls) ≡ kit.key s ∷ punctuate lexer.fresh ls
 key_placed p s ls m = placed p (kit.string s) (lexer.colon ∷ ls) ∙ rw (m, colon_placed ls) refl
 
--- a sign before a text
-lex_array : (t : List ℕ) → lex lexer.between (91 ∷ t) ≡ lexer.token kit.begin_array ∷ lex lexer.between t
+-- a byte before a text
+lex_sign : (b : ℕ) (t : List ℕ) → lex lexer.between (b ∷ t) ≡ lex_byte lexer.between (class b) b t (λ next. lex next t)
 unfolding lex
-lex_array t = refl
-
-lex_end_array : (t : List ℕ) → lex lexer.between (93 ∷ t) ≡ lexer.token kit.end_array ∷ lex lexer.between t
-unfolding lex
-lex_end_array t = refl
-
-lex_object : (t : List ℕ) → lex lexer.between (123 ∷ t) ≡ lexer.token kit.begin_object ∷ lex lexer.between t
-unfolding lex
-lex_object t = refl
-
-lex_end_object : (t : List ℕ) → lex lexer.between (125 ∷ t) ≡ lexer.token kit.end_object ∷ lex lexer.between t
-unfolding lex
-lex_end_object t = refl
-
-lex_comma : (t : List ℕ) → lex lexer.between (44 ∷ t) ≡ lexer.comma ∷ lex lexer.between t
-unfolding lex
-lex_comma t = refl
-
-lex_colon : (t : List ℕ) → lex lexer.between (58 ∷ t) ≡ lexer.colon ∷ lex lexer.between t
-unfolding lex
-lex_colon t = refl
-
-lex_quote : (t : List ℕ) → lex lexer.between (34 ∷ t) ≡ lexer.token (lexer.string_token (content kit_text.plain t)) ∷ lex lexer.in_string t
-unfolding lex
-lex_quote t = refl
+lex_sign b t = refl
 
 lex_nothing : lex lexer.between [] ≡ []
 unfolding lex
@@ -234,13 +208,13 @@ follow_ends _ (a_brace t) = refl
 
 no_colon : (t : List ℕ) → Follow t → begins_colon (lex lexer.between t) ≡ false
 no_colon _ nothing = rw lex_nothing refl
-no_colon _ (a_comma t) = rw (lex_comma t) refl
-no_colon _ (a_bracket t) = rw (lex_end_array t) refl
-no_colon _ (a_brace t) = rw (lex_end_object t) refl
+no_colon _ (a_comma t) = rw (lex_sign 44 t) refl
+no_colon _ (a_bracket t) = rw (lex_sign 93 t) refl
+no_colon _ (a_brace t) = rw (lex_sign 125 t) refl
 
 -- a string where a value or a key may begin
 string_lexed : (text rest : List ℕ) (r : Reads text rest) → lex lexer.between (34 ∷ text) ≡ lexer.token (kit.string r.content_is) ∷ lex lexer.between rest
-string_lexed text rest r = lex_quote text ∙ rw (r.content_of, r.lexed) refl
+string_lexed text rest r = lex_sign 34 text ∙ rw (r.content_of, r.lexed) refl
 
 -- a scalar whose token is read
 scalar_value : (p : Place) (text rest : List ℕ) (t : Token) → IsScalar t → lex lexer.between text ≡ lexer.token t ∷ lex lexer.between rest → may_begin p ≡ true
@@ -260,29 +234,29 @@ deeper : (P : ℕ → Type 0) (least : ℕ) → ((depth : ℕ) → least ≤ dep
 deeper P least f = (least + 1, at_depth P least f)
 
 end_array_tokens : (rest : List ℕ) → Tokens lexer.after_value (93 ∷ rest) ≡ kit.end_array ∷ Tokens lexer.after_value rest
-end_array_tokens rest = rw (lex_end_array rest) (placed lexer.after_value kit.end_array (lex lexer.between rest))
+end_array_tokens rest = rw (lex_sign 93 rest) (placed lexer.after_value kit.end_array (lex lexer.between rest))
 
 end_object_tokens : (rest : List ℕ) → Tokens lexer.after_value (125 ∷ rest) ≡ kit.end_object ∷ Tokens lexer.after_value rest
-end_object_tokens rest = rw (lex_end_object rest) (placed lexer.after_value kit.end_object (lex lexer.between rest))
+end_object_tokens rest = rw (lex_sign 125 rest) (placed lexer.after_value kit.end_object (lex lexer.between rest))
 
 comma_tokens : (more : List ℕ) → Tokens lexer.after_value (44 ∷ more) ≡ Tokens lexer.after_comma more
-comma_tokens more = rw (lex_comma more) (comma_placed (lex lexer.between more))
+comma_tokens more = rw (lex_sign 44 more) (comma_placed (lex lexer.between more))
 
 empty_array_tokens : (text rest : List ℕ) → HasSpace text (93 ∷ rest) → Tokens lexer.fresh text ≡ kit.end_array ∷ Tokens lexer.after_value rest
-empty_array_tokens text rest h = rw (lex_space text (93 ∷ rest) h, lex_end_array rest) (placed lexer.fresh kit.end_array (lex lexer.between rest))
+empty_array_tokens text rest h = rw (lex_space text (93 ∷ rest) h, lex_sign 93 rest) (placed lexer.fresh kit.end_array (lex lexer.between rest))
 
 empty_object_tokens : (text rest : List ℕ) → HasSpace text (125 ∷ rest) → Tokens lexer.fresh text ≡ kit.end_object ∷ Tokens lexer.after_value rest
-empty_object_tokens text rest h = rw (lex_space text (125 ∷ rest) h, lex_end_object rest) (placed lexer.fresh kit.end_object (lex lexer.between rest))
+empty_object_tokens text rest h = rw (lex_space text (125 ∷ rest) h, lex_sign 125 rest) (placed lexer.fresh kit.end_object (lex lexer.between rest))
 
 array_tokens : (p : Place) (text : List ℕ) → may_begin p ≡ true → Tokens p (91 ∷ text) ≡ kit.begin_array ∷ Tokens lexer.fresh text
-array_tokens p text m = rw (lex_array text) (array_placed p (lex lexer.between text) m)
+array_tokens p text m = rw (lex_sign 91 text) (array_placed p (lex lexer.between text) m)
 
 object_tokens : (p : Place) (text : List ℕ) → may_begin p ≡ true → Tokens p (123 ∷ text) ≡ kit.begin_object ∷ Tokens lexer.fresh text
-object_tokens p text m = rw (lex_object text) (object_placed p (lex lexer.between text) m)
+object_tokens p text m = rw (lex_sign 123 text) (object_placed p (lex lexer.between text) m)
 
 key_tokens : (p : Place) (text key after value : List ℕ) → HasSpace text (34 ∷ key) → (r : Reads key after) → HasSpace after (58 ∷ value) → may_begin p ≡ true
     → Tokens p text ≡ kit.key r.content_is ∷ Tokens lexer.fresh value
-key_tokens p text key after value h r q m = rw (lex_space text (34 ∷ key) h, string_lexed key after r, lex_space after (58 ∷ value) q, lex_colon value) (key_placed p r.content_is (lex lexer.between value) m)
+key_tokens p text key after value h r q m = rw (lex_space text (34 ∷ key) h, string_lexed key after r, lex_space after (58 ∷ value) q, lex_sign 58 value) (key_placed p r.content_is (lex lexer.between value) m)
 
 array_val : (p : Place) (text rest : List ℕ) → may_begin p ≡ true → Enough (λ depth. Its depth (Tokens lexer.fresh text) (Tokens lexer.after_value rest))
     → Enough (λ depth. Val depth (Tokens p (91 ∷ text)) (Tokens lexer.after_value rest))

@@ -11,7 +11,7 @@ use Rattle.tmpl_formats.specs.YamlScalar.{is_start, passes, may_follow, is_sign,
 use Rattle.tmpl_formats.specs.Hex.{hex_value}
 use Rattle.tmpl_formats.specs.computed.YamlScalar.{starts_well, is_scalar, is_spaced_scalar, is_name}
 use Rattle.tmpl_formats.specs.computed.Yaml.{written}
-use Rattle.tmpl_formats.specs.computed.YamlLine.{sign_of, spot_at, to, move_to, next_column, next_spot, at_gap, at_next_gap, begin_in, lead_in, at_node, at_flow, on_line, at_place, after_flow_scalar, after_scalar_in, key_if, is_margin_in, after_dash, after_dashes, after_closed, in_comment, more_plain, ends_entry, whole_value, after_plain, named_key, after_colon, spaced_value, after_space, after_digit, in_single, at_quoted_colon, after_quoted, after_quote, at_header_end, in_block, before_indent, in_indent, in_text, move_of}
+use Rattle.tmpl_formats.specs.computed.YamlLine.{sign_of, spot_at, to, move_to, next_column, next_spot, at_gap, at_next_gap, begin, lead, at_node, at_flow, on_line, at_place, after_flow_scalar, after_scalar, key_if, is_margin, after_dash, after_dashes, after_closed, in_comment, more_plain, ends_entry, whole_value, after_plain, named_key, after_colon, spaced_value, after_space, after_digit, in_single, at_quoted_colon, after_quoted, after_quote, at_header_end, in_block, before_indent, in_indent, in_text, move_of}
 use Rattle.tmpl_formats.specs.computed.YamlNest.{Nest, nest_at, happened, is_in_brackets}
 use Rattle.tmpl_formats.specs.declared.yaml_nest.Bracket.{Bracket}
 use Rattle.tmpl_formats.specs.declared.yaml_nest.Bracket.TheVariants as bracket
@@ -283,7 +283,7 @@ next_gap_goes x p c e b s n text i h = gap_goes x p (suc c) e b s n text i (next
 
 -- ---- where a key or a value begins
 
-begin_reach : (p : Place) (c : ℕ) (q : Control) (s : List ℕ) (n : Nest) (text : List ℕ) → Moved q s (happened (begin_in p c) n) text → Reaches q s (Left n) text
+begin_reach : (p : Place) (c : ℕ) (q : Control) (s : List ℕ) (n : Nest) (text : List ℕ) → Moved q s (happened (begin p c) n) text → Reaches q s (Left n) text
 begin_reach place.Flow c q s n text h = reach q s event.Enter n text h
 begin_reach _ c q s n text h = reach q s (event.Begin c) n text h
 
@@ -294,7 +294,7 @@ line_lead : (t : Bool) (c : ℕ) (q : Control) (s : List ℕ) (n : Nest) (text :
 line_lead true c q s n text h = reach q s event.Nothing n text h
 line_lead false c q s n text h = reach q s (event.Dash c) n text h
 
-lead_reach : (p : Place) (c : ℕ) (q : Control) (s : List ℕ) (n : Nest) (text : List ℕ) → Moved q s (happened (lead_in p c) n) text → Reaches q s (Left n) text
+lead_reach : (p : Place) (c : ℕ) (q : Control) (s : List ℕ) (n : Nest) (text : List ℕ) → Moved q s (happened (lead p c) n) text → Reaches q s (Left n) text
 lead_reach place.Line c q s n text h = line_lead (c == 0) c q s n text h
 lead_reach place.Flow c q s n text h = reach q s event.Enter n text h
 lead_reach _ c q s n text h = reach q s (event.Dash c) n text h
@@ -414,7 +414,7 @@ line_ending sign.Comma c b s n text i e h = absurd h
 line_ending (sign.Close k) c b s n text i e h = absurd h
 line_ending _ c b s n text i e h = cc
 
-ending_goes : (p : Place) (x : Sign) (c b : ℕ) (s : List ℕ) (n : Nest) (text : List ℕ) → sign_of b ≡ x → is_ending x ≡ true → Went (after_scalar_in p c x) s n text
+ending_goes : (p : Place) (x : Sign) (c b : ℕ) (s : List ℕ) (n : Nest) (text : List ℕ) → sign_of b ≡ x → is_ending x ≡ true → Went (after_scalar p c x) s n text
     → AnyRest (after_value p) (AfterScalar c n) (b ∷ text)
 ending_goes place.Flow x c b s n text i e h = flow_ending x c b s n text i e h
 ending_goes _ x c b s n text i e h = line_ending x c b s n text i e h
@@ -435,13 +435,13 @@ flow_scalar_goes (sign.Close k) c b s n text i h = an_end place.Flow c n (b ∷ 
 flow_scalar_goes _ c b s n text i h = absurd h
 
 scalar_goes : (p : Place) (x : Sign) (c b : ℕ) (s : List ℕ) (n : Nest) (text whole : List ℕ) → sign_of b ≡ x → takes_values p ≡ true
-    → HasScalar (is_flow p) whole (b ∷ text) → Went (after_scalar_in p c x) s n text → Rest p c (Left n) whole
+    → HasScalar (is_flow p) whole (b ∷ text) → Went (after_scalar p c x) s n text → Rest p c (Left n) whole
 scalar_goes place.Flow x c b s n text whole i v q h = a_value place.Flow c n whole (b ∷ text) v q tt (flow_scalar_goes x c b s n text i h)
 scalar_goes place.End x c b s n text whole i v q h = cc
 scalar_goes p x c b s n text whole i v q h = let g = gap_goes x place.End 0 (event.One (token.Scalar c)) b s n text i h in a_value p c n whole (b ∷ text) v q g.0 g.1
 
 value_if_goes : (t u : Bool) (p : Place) (x : Sign) (c b : ℕ) (s : List ℕ) (n : Nest) (text whole : List ℕ) → sign_of b ≡ x → takes_values p ≡ u
-    → (t ≡ true → HasScalar (is_flow p) whole (b ∷ text)) → Went (cond (t && u) (after_scalar_in p c x) None) s n text → Rest p c (Left n) whole
+    → (t ≡ true → HasScalar (is_flow p) whole (b ∷ text)) → Went (cond (t && u) (after_scalar p c x) None) s n text → Rest p c (Left n) whole
 value_if_goes true true p x c b s n text whole i v q h = scalar_goes p x c b s n text whole i v (q refl) h
 value_if_goes _ _ p x c b s n text whole i v q h = absurd h
 
@@ -470,16 +470,16 @@ item_if_goes _ _ p x c b s n text i v f h = absurd h
 
 -- ---- dashes
 
-margin_of : (p : Place) (c : ℕ) (L : List Token → Type 0) (text : List ℕ) → is_margin_in p c ≡ true → Rest place.Line 0 L text → Rest p c L text
+margin_of : (p : Place) (c : ℕ) (L : List Token → Type 0) (text : List ℕ) → is_margin p c ≡ true → Rest place.Line 0 L text → Rest p c L text
 margin_of place.Line c L text e h = rw (same_of c 0 e) h
 margin_of _ c L text e h = cc
 
-dashed_goes : (p : Place) (c b : ℕ) (s : List ℕ) (n : Nest) (text : List ℕ) → Went (move_to (at.Plain (spot_at p c)) (writes.Dash b) (begin_in p c)) s n text
+dashed_goes : (p : Place) (c b : ℕ) (s : List ℕ) (n : Nest) (text : List ℕ) → Went (move_to (at.Plain (spot_at p c)) (writes.Dash b) (begin p c)) s n text
     → Rest p c (Left n) (45 ∷ b ∷ text)
 dashed_goes p c b s n text h = plain_reached p c (45 ∷ b ∷ []) (Left n) text (begin_reach p c (at.Plain (spot_at p c)) (45 ∷ b ∷ []) n text h)
 
-second_dash_goes : (t : Bool) (p : Place) (c b : ℕ) (s : List ℕ) (n : Nest) (text : List ℕ) → is_margin_in p c ≡ t → b ≡ 45
-    → Went (cond t (to at.Dashes event.Nothing) (move_to (at.Plain (spot_at p c)) (writes.Dash b) (begin_in p c))) s n text → Rest p c (Left n) (45 ∷ b ∷ text)
+second_dash_goes : (t : Bool) (p : Place) (c b : ℕ) (s : List ℕ) (n : Nest) (text : List ℕ) → is_margin p c ≡ t → b ≡ 45
+    → Went (cond t (to at.Dashes event.Nothing) (move_to (at.Plain (spot_at p c)) (writes.Dash b) (begin p c))) s n text → Rest p c (Left n) (45 ∷ b ∷ text)
 second_dash_goes true p c b s n text m e h = rw e (margin_of p c (Left n) (45 ∷ 45 ∷ text) m h)
 second_dash_goes false p c b s n text m e h = dashed_goes p c b s n text h
 
@@ -487,7 +487,7 @@ dash_goes : (x : Sign) (p : Place) (c b : ℕ) (s : List ℕ) (n : Nest) (text :
     → Rest p c (Left n) (45 ∷ b ∷ text)
 dash_goes sign.Space p c b s n text i h = item_if_goes (takes_keys p) (is_flow p) p sign.Space c b s n text i refl refl h
 dash_goes sign.Newline p c b s n text i h = item_if_goes (takes_keys p) (is_flow p) p sign.Newline c b s n text i refl refl h
-dash_goes sign.Dash p c b s n text i h = second_dash_goes (is_margin_in p c) p c b s n text refl (byte_of sign.Dash b i refl) h
+dash_goes sign.Dash p c b s n text i h = second_dash_goes (is_margin p c) p c b s n text refl (byte_of sign.Dash b i refl) h
 dash_goes sign.Start p c b s n text i h = dashed_goes p c b s n text h
 dash_goes _ p c b s n text i h = absurd h
 
@@ -613,7 +613,7 @@ spaced_scalar p c end s more n v e h =
     (an_end p c n (drop end s ++ more) (all_spaces (after_value p) (AfterScalar c n) (drop end s) more q.2 h)))
 
 spaced_if : (t u : Bool) (x : Sign) (p : Place) (c end b : ℕ) (s : List ℕ) (n : Nest) (text : List ℕ) → sign_of b ≡ x → is_ending x ≡ true
-    → is_spaced_scalar (is_flow p) s end ≡ t → takes_values p ≡ u → Went (cond (t && u) (after_scalar_in p c x) None) s n text → Rest p c (Left n) (s ++ b ∷ text)
+    → is_spaced_scalar (is_flow p) s end ≡ t → takes_values p ≡ u → Went (cond (t && u) (after_scalar p c x) None) s n text → Rest p c (Left n) (s ++ b ∷ text)
 spaced_if true true x p c end b s n text i e d v h = spaced_scalar p c end s (b ∷ text) n v d (ending_goes p x c b s n text i e h)
 spaced_if _ _ x p c end b s n text i e d v h = absurd h
 

@@ -242,7 +242,7 @@ fn at_next_gap(place: Place, column: u64, sign: Sign, event: Event) -> Option<Mo
 
 /// A key or a value begins at a spot.
 fn begin(spot: Spot) -> Event
-    ensures { result ≡ computed.begin spot }
+    ensures { result ≡ computed.begin spot.place spot.column }
 {
     match spot.place {
         Place::Flow => Event::Enter,
@@ -252,7 +252,7 @@ fn begin(spot: Spot) -> Event
 
 /// A dash comes at a spot, which may begin an item, a key or a value, and at the start of a line another document.
 fn lead(spot: Spot) -> Event
-    ensures { result ≡ computed.lead spot }
+    ensures { result ≡ computed.lead spot.place spot.column }
 {
     match spot.place {
         Place::Flow => Event::Enter,
@@ -329,7 +329,7 @@ fn at_place(spot: Spot, sign: Sign, byte: u8) -> Option<Move>
 
 /// After the scalar of a value.
 fn after_scalar(spot: Spot, sign: Sign) -> Option<Move>
-    ensures { result ≡ computed.after_scalar spot sign }
+    ensures { result ≡ computed.after_scalar spot.place spot.column sign }
 {
     match spot.place {
         Place::Flow => after_flow_scalar(Token::Scalar(spot.column), sign),
@@ -397,7 +397,7 @@ fn item_if(spot: Spot, sign: Sign) -> Option<Move>
 
 /// Whether a place is the start of a line without spaces.
 fn is_margin(spot: Spot) -> bool
-    ensures { result ≡ computed.is_margin spot }
+    ensures { result ≡ computed.is_margin spot.place spot.column }
 {
     matches!(spot.place, Place::Line) && spot.column == 0
 }

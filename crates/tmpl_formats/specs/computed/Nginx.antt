@@ -35,9 +35,6 @@ to control depth = Some (config_at control depth)
 abbrev pub opened : ℕ → Option Nginx
 opened depth = if nat_lt (depth + 1) (2 ^ 64) then to at.Start (depth + 1) else None
 
-abbrev pub closed : ℕ → Option Nginx
-closed depth = if depth == 0 then None else to at.Start (depth - 1)
-
 -- where a word begins
 abbrev pub at_word : ℕ → Sign → Option Nginx
 at_word depth sign.Double = to at.Double depth
@@ -74,7 +71,7 @@ unless_null next depth _ = to next depth
 abbrev pub after_sign : Control → ℕ → Sign → Option Nginx
 after_sign at.Start depth sign.Newline = to at.Start depth
 after_sign at.Start depth sign.Gap = to at.Start depth
-after_sign at.Start depth sign.Close = closed depth
+after_sign at.Start depth sign.Close = if depth == 0 then None else to at.Start (depth - 1)
 after_sign at.Start depth sign.Hash = to at.StartComment depth
 after_sign at.Start depth s = at_word depth s
 after_sign at.Gap depth sign.Newline = to at.Gap depth

@@ -66,31 +66,25 @@ at_gap p c _ e = None
 abbrev pub at_next_gap : Place → ℕ → Sign → Event → Option Move
 at_next_gap p c s e = option_and_then (λ d. at_gap p d s e) (next_column c)
 
-abbrev pub begin_in : Place → ℕ → Event
-begin_in place.Flow c = event.Enter
-begin_in _ c = event.Begin c
+abbrev pub begin : Place → ℕ → Event
+begin place.Flow c = event.Enter
+begin _ c = event.Begin c
 
-abbrev pub begin : Spot → Event
-begin x = begin_in x.place x.column
-
-abbrev pub lead_in : Place → ℕ → Event
-lead_in place.Flow c = event.Enter
-lead_in place.Line c = if c == 0 then event.Nothing else event.Dash c
-lead_in _ c = event.Dash c
-
-abbrev pub lead : Spot → Event
-lead x = lead_in x.place x.column
+abbrev pub lead : Place → ℕ → Event
+lead place.Flow c = event.Enter
+lead place.Line c = if c == 0 then event.Nothing else event.Dash c
+lead _ c = event.Dash c
 
 abbrev pub at_mark : Spot → Option Move
 at_mark x = option_and_then (λ parent. to (at.Header parent) (event.One (token.Scalar x.column))) (parent_of x.place)
 
 -- where a key or a value begins
 abbrev pub at_node : Spot → Sign → ℕ → Option Move
-at_node x sign.Dash b = to (at.Dash x) (lead x)
-at_node x sign.Start b = move_to (at.Plain x) (writes.Start b) (begin x)
-at_node x sign.Lead b = move_to (at.Plain x) (writes.Start b) (begin x)
-at_node x sign.Double b = to (at.Double x) (begin x)
-at_node x sign.Single b = to (at.Single x) (begin x)
+at_node x sign.Dash b = to (at.Dash x) (lead x.place x.column)
+at_node x sign.Start b = move_to (at.Plain x) (writes.Start b) (begin x.place x.column)
+at_node x sign.Lead b = move_to (at.Plain x) (writes.Start b) (begin x.place x.column)
+at_node x sign.Double b = to (at.Double x) (begin x.place x.column)
+at_node x sign.Single b = to (at.Single x) (begin x.place x.column)
 at_node x sign.Mark b = at_mark x
 at_node x (sign.Open k) b = to (at.At (spot_at place.Flow 0)) (event.One (token.Open k x.column))
 at_node x _ b = None
@@ -120,15 +114,12 @@ after_flow_scalar t sign.Comma = to (at.At (spot_at place.Flow 0)) (event.Two t 
 after_flow_scalar t (sign.Close k) = to at.Closed (event.Two t (token.Close k))
 after_flow_scalar t _ = None
 
-abbrev pub after_scalar_in : Place → ℕ → Sign → Option Move
-after_scalar_in place.Flow c s = after_flow_scalar (token.Scalar c) s
-after_scalar_in _ c s = at_gap place.End 0 s (event.One (token.Scalar c))
-
-abbrev pub after_scalar : Spot → Sign → Option Move
-after_scalar x s = after_scalar_in x.place x.column s
+abbrev pub after_scalar : Place → ℕ → Sign → Option Move
+after_scalar place.Flow c s = after_flow_scalar (token.Scalar c) s
+after_scalar _ c s = at_gap place.End 0 s (event.One (token.Scalar c))
 
 abbrev pub value_if : Bool → Spot → Sign → Option Move
-value_if t x s = if t && takes_values x.place then after_scalar x s else None
+value_if t x s = if t && takes_values x.place then after_scalar x.place x.column s else None
 
 abbrev pub key_if : Bool → Spot → Sign → Option Move
 key_if t x s = if t && takes_keys x.place then at_next_gap (after_key x.place x.column) x.column s (event.One (token.Key x.column)) else None
@@ -137,18 +128,15 @@ abbrev pub item_if : Spot → Sign → Option Move
 item_if x s =
     if takes_keys x.place && not (is_flow x.place) then at_next_gap (place.Item x.column) x.column s (event.Item x.column) else None
 
-abbrev pub is_margin_in : Place → ℕ → Bool
-is_margin_in place.Line c = c == 0
-is_margin_in _ c = false
-
-abbrev pub is_margin : Spot → Bool
-is_margin x = is_margin_in x.place x.column
+abbrev pub is_margin : Place → ℕ → Bool
+is_margin place.Line c = c == 0
+is_margin _ c = false
 
 abbrev pub after_dash : Spot → Sign → ℕ → Option Move
 after_dash x sign.Space b = item_if x sign.Space
 after_dash x sign.Newline b = item_if x sign.Newline
-after_dash x sign.Dash b = if is_margin x then to at.Dashes event.Nothing else move_to (at.Plain x) (writes.Dash b) (begin x)
-after_dash x sign.Start b = move_to (at.Plain x) (writes.Dash b) (begin x)
+after_dash x sign.Dash b = if is_margin x.place x.column then to at.Dashes event.Nothing else move_to (at.Plain x) (writes.Dash b) (begin x.place x.column)
+after_dash x sign.Start b = move_to (at.Plain x) (writes.Dash b) (begin x.place x.column)
 after_dash x _ b = None
 
 abbrev pub after_dashes : Sign → ℕ → Option Move
