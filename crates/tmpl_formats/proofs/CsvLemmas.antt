@@ -58,7 +58,7 @@ left-cons : (columns : ℕ) {P Q : List ℕ → Type 0} (b : ℕ) (text : List �
 left-cons columns b _ f (at_last {rest} p) = at_last (f rest p)
 left-cons columns b _ f (before_more rest end others p n c) = before_more (b ∷ rest) end others (f rest p) n c
 
--- fields, with so many before them
+-- fields, with this many before them
 data FieldsLeft (columns before : ℕ) : List ℕ → Type 0 where
   fields_left : {text : List ℕ} (count : ℕ) → count + before ≡ columns → IsFields count text → FieldsLeft columns before text
 

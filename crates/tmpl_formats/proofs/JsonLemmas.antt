@@ -98,29 +98,29 @@ exponents b = grind (arith, common_steps)
 -- ---- what is left, by what is open, the innermost first
 
 -- after a value
-data Behind : List Open → List ℕ → Type 0 where
-  done : {text : List ℕ} → HasSpace text [] → Behind [] text
-  array_ends : {s : List Open} {text rest : List ℕ} → HasSpace text (93 ∷ rest) → Behind s rest → Behind (open_.Array ∷ s) text
-  array_goes : {s : List Open} {text more rest : List ℕ} → HasSpace text (44 ∷ more) → HasItems more (93 ∷ rest) → Behind s rest → Behind (open_.Array ∷ s) text
-  object_ends : {s : List Open} {text rest : List ℕ} → HasSpace text (125 ∷ rest) → Behind s rest → Behind (open_.Object ∷ s) text
-  object_goes : {s : List Open} {text more rest : List ℕ} → HasSpace text (44 ∷ more) → HasMembers more (125 ∷ rest) → Behind s rest → Behind (open_.Object ∷ s) text
+data AfterValue : List Open → List ℕ → Type 0 where
+  done : {text : List ℕ} → HasSpace text [] → AfterValue [] text
+  array_ends : {s : List Open} {text rest : List ℕ} → HasSpace text (93 ∷ rest) → AfterValue s rest → AfterValue (open_.Array ∷ s) text
+  array_goes : {s : List Open} {text more rest : List ℕ} → HasSpace text (44 ∷ more) → HasItems more (93 ∷ rest) → AfterValue s rest → AfterValue (open_.Array ∷ s) text
+  object_ends : {s : List Open} {text rest : List ℕ} → HasSpace text (125 ∷ rest) → AfterValue s rest → AfterValue (open_.Object ∷ s) text
+  object_goes : {s : List Open} {text more rest : List ℕ} → HasSpace text (44 ∷ more) → HasMembers more (125 ∷ rest) → AfterValue s rest → AfterValue (open_.Object ∷ s) text
 
 -- before a value
 data ValueThen (s : List Open) : List ℕ → Type 0 where
-  value_then : {text value rest : List ℕ} → HasSpace text value → HasValue value rest → Behind s rest → ValueThen s text
+  value_then : {text value rest : List ℕ} → HasSpace text value → HasValue value rest → AfterValue s rest → ValueThen s text
 
 data ItemsThen (s : List Open) : List ℕ → Type 0 where
-  items_then : {text rest : List ℕ} → HasItems text (93 ∷ rest) → Behind s rest → ItemsThen s text
+  items_then : {text rest : List ℕ} → HasItems text (93 ∷ rest) → AfterValue s rest → ItemsThen s text
 
 data ItemThen (s : List Open) : List ℕ → Type 0 where
-  no_items : {text rest : List ℕ} → HasSpace text (93 ∷ rest) → Behind s rest → ItemThen s text
+  no_items : {text rest : List ℕ} → HasSpace text (93 ∷ rest) → AfterValue s rest → ItemThen s text
   some_items : {text : List ℕ} → ItemsThen s text → ItemThen s text
 
 data MembersThen (s : List Open) : List ℕ → Type 0 where
-  members_then : {text rest : List ℕ} → HasMembers text (125 ∷ rest) → Behind s rest → MembersThen s text
+  members_then : {text rest : List ℕ} → HasMembers text (125 ∷ rest) → AfterValue s rest → MembersThen s text
 
 data MemberThen (s : List Open) : List ℕ → Type 0 where
-  no_members : {text rest : List ℕ} → HasSpace text (125 ∷ rest) → Behind s rest → MemberThen s text
+  no_members : {text rest : List ℕ} → HasSpace text (125 ∷ rest) → AfterValue s rest → MemberThen s text
   some_members : {text : List ℕ} → MembersThen s text → MemberThen s text
 
 -- after a key
@@ -128,7 +128,7 @@ data ColonThen (s : List Open) : List ℕ → Type 0 where
   colon_then : {text value : List ℕ} → HasSpace text (58 ∷ value) → ValueThen s value → ColonThen s text
 
 abbrev After : Role → List Open → List ℕ → Type 0
-After role.Value s text = Behind s text
+After role.Value s text = AfterValue s text
 After role.Key s text = ColonThen s text
 
 abbrev TextThen : Role → List Open → List ℕ → Type 0
@@ -165,17 +165,17 @@ letters literal.Ll = 108 ∷ 108 ∷ []
 letters literal.L = 108 ∷ []
 
 data LettersThen (s : List Open) (word : List ℕ) : List ℕ → Type 0 where
-  letters_then : {rest : List ℕ} → Behind s rest → LettersThen s word (word ++ rest)
+  letters_then : {rest : List ℕ} → AfterValue s rest → LettersThen s word (word ++ rest)
 
 abbrev NumberThen : Number → List Open → List ℕ → Type 0
-NumberThen num.Minus s text = Then HasUnsigned (Behind s) text
-NumberThen num.Zero s text = Then HasFraction (Behind s) text
-NumberThen num.Whole s text = Then HasDigits (Then HasFraction (Behind s)) text
-NumberThen num.Point s text = Then HasSome (Then HasExponent (Behind s)) text
-NumberThen num.Fraction s text = Then HasDigits (Then HasExponent (Behind s)) text
-NumberThen num.Exponent s text = (b : ℕ) → (b ≡ 101) ⊎ (b ≡ 69) → Then HasExponent (Behind s) (b ∷ text)
-NumberThen num.Sign s text = Then HasSome (Behind s) text
-NumberThen num.Power s text = Then HasDigits (Behind s) text
+NumberThen num.Minus s text = Then HasUnsigned (AfterValue s) text
+NumberThen num.Zero s text = Then HasFraction (AfterValue s) text
+NumberThen num.Whole s text = Then HasDigits (Then HasFraction (AfterValue s)) text
+NumberThen num.Point s text = Then HasSome (Then HasExponent (AfterValue s)) text
+NumberThen num.Fraction s text = Then HasDigits (Then HasExponent (AfterValue s)) text
+NumberThen num.Exponent s text = (b : ℕ) → (b ≡ 101) ⊎ (b ≡ 69) → Then HasExponent (AfterValue s) (b ∷ text)
+NumberThen num.Sign s text = Then HasSome (AfterValue s) text
+NumberThen num.Power s text = Then HasDigits (AfterValue s) text
 
 -- the machine is at a bracket of an array, and of an object
 abbrev InArray : (List Open → List ℕ → Type 0) → List Open → List ℕ → Type 0
@@ -192,7 +192,7 @@ Goes at.Item s text = InArray ItemThen s text
 Goes at.Member s text = InObject MemberThen s text
 Goes at.Key s text = InObject MembersThen s text
 Goes at.Colon s text = ColonThen s text
-Goes at.End s text = Behind s text
+Goes at.End s text = AfterValue s text
 Goes (at.Text r) s text = TextThen r s text
 Goes (at.Escape r x) s text = EscapeThen r x s text
 Goes (at.Literal l) s text = LettersThen s (letters l) text
@@ -200,12 +200,12 @@ Goes (at.Number n) s text = NumberThen n s text
 
 -- ---- space before what is left
 
-behind_space : (s : List Open) (b : ℕ) (text : List ℕ) → is_white b ≡ true → Behind s text → Behind s (b ∷ text)
-behind_space _ b text w (done p) = done (space w p)
-behind_space _ b text w (array_ends p q) = array_ends (space w p) q
-behind_space _ b text w (array_goes p i q) = array_goes (space w p) i q
-behind_space _ b text w (object_ends p q) = object_ends (space w p) q
-behind_space _ b text w (object_goes p m q) = object_goes (space w p) m q
+end_space : (s : List Open) (b : ℕ) (text : List ℕ) → is_white b ≡ true → AfterValue s text → AfterValue s (b ∷ text)
+end_space _ b text w (done p) = done (space w p)
+end_space _ b text w (array_ends p q) = array_ends (space w p) q
+end_space _ b text w (array_goes p i q) = array_goes (space w p) i q
+end_space _ b text w (object_ends p q) = object_ends (space w p) q
+end_space _ b text w (object_goes p m q) = object_goes (space w p) m q
 
 value_space : (s : List Open) (b : ℕ) (text : List ℕ) → is_white b ≡ true → ValueThen s text → ValueThen s (b ∷ text)
 value_space s b text w (value_then p v q) = value_then (space w p) v q
@@ -274,15 +274,15 @@ popped q o s text known h = known q s (went (λ x. mistake step ends x text) (co
 
 -- after a value
 
-comma_array : (s : List Open) (text : List ℕ) → ItemsThen s text → Behind (open_.Array ∷ s) (44 ∷ text)
+comma_array : (s : List Open) (text : List ℕ) → ItemsThen s text → AfterValue (open_.Array ∷ s) (44 ∷ text)
 comma_array s text (items_then i b) = array_goes no_space i b
 
-comma_object : (s : List Open) (text : List ℕ) → MembersThen s text → Behind (open_.Object ∷ s) (44 ∷ text)
+comma_object : (s : List Open) (text : List ℕ) → MembersThen s text → AfterValue (open_.Object ∷ s) (44 ∷ text)
 comma_object s text (members_then m b) = object_goes no_space m b
 
-end_goes : (x : Sign) (s : List Open) (b : ℕ) (text : List ℕ) → sign_of b ≡ x → Accepts s (at_end (head_of s) x) text → Known text → Behind s (b ∷ text)
-end_goes sign.White s b text e h known = behind_space s b text (whites b (ap white_sign e)) (on at.End s text known h)
-end_goes sign.Space s b text e h known = behind_space s b text (whites b (ap white_sign e)) (on at.End s text known h)
+end_goes : (x : Sign) (s : List Open) (b : ℕ) (text : List ℕ) → sign_of b ≡ x → Accepts s (at_end (head_of s) x) text → Known text → AfterValue s (b ∷ text)
+end_goes sign.White s b text e h known = end_space s b text (whites b (ap white_sign e)) (on at.End s text known h)
+end_goes sign.Space s b text e h known = end_space s b text (whites b (ap white_sign e)) (on at.End s text known h)
 end_goes sign.Comma [] b text e h known = cc
 end_goes sign.Comma (open_.Array ∷ s) b text e h known = rw (byte_of sign.Comma b e refl) (comma_array s text (items_of s text (on at.Value (open_.Array ∷ s) text known h)))
 end_goes sign.Comma (open_.Object ∷ s) b text e h known = rw (byte_of sign.Comma b e refl) (comma_object s text (on at.Key (open_.Object ∷ s) text known h))
@@ -488,14 +488,14 @@ literal_goes literal.L s b text h known = last_letter s b 108 text h known
 
 -- ---- numbers
 
-exponent_of : (s : List Open) (b : ℕ) (text : List ℕ) → (b ≡ 101) ⊎ (b ≡ 69) → Then HasSome (Behind s) text → Then HasExponent (Behind s) (b ∷ text)
+exponent_of : (s : List Open) (b : ℕ) (text : List ℕ) → (b ≡ 101) ⊎ (b ≡ 69) → Then HasSome (AfterValue s) text → Then HasExponent (AfterValue s) (b ∷ text)
 exponent_of s b text e (both m q) = both (unsigned e m) q
 
-exponent_signed : (s : List Open) (b c : ℕ) (text : List ℕ) → (b ≡ 101) ⊎ (b ≡ 69) → (c ≡ 43) ⊎ (c ≡ 45) → Then HasSome (Behind s) text
-    → Then HasExponent (Behind s) (b ∷ c ∷ text)
+exponent_signed : (s : List Open) (b c : ℕ) (text : List ℕ) → (b ≡ 101) ⊎ (b ≡ 69) → (c ≡ 43) ⊎ (c ≡ 45) → Then HasSome (AfterValue s) text
+    → Then HasExponent (AfterValue s) (b ∷ c ∷ text)
 exponent_signed s b c text e f (both m q) = both (signed e f m) q
 
-fraction_of : (s : List Open) (text : List ℕ) → NumberThen num.Point s text → Then HasFraction (Behind s) (46 ∷ text)
+fraction_of : (s : List Open) (text : List ℕ) → NumberThen num.Point s text → Then HasFraction (AfterValue s) (46 ∷ text)
 fraction_of s text (both m (both x q)) = both (fraction m x) q
 
 -- a zero or another digit
@@ -506,14 +506,14 @@ some_digits : (x : Sign) (Q : List ℕ → Type 0) (b : ℕ) (text : List ℕ) �
 some_digits x Q b text i e q = then_map q (λ rest m. some (digits b (ap digit_sign e ∙ i)) m)
 
 power_goes : (x : Sign) (s : List Open) (b : ℕ) (text : List ℕ) → sign_of b ≡ x → Accepts s (at_number num.Power (head_of s) x) text → Known text → NumberThen num.Power s (b ∷ text)
-power_goes sign.Zero s b text e h known = more_digits sign.Zero (Behind s) b text refl e (on (at.Number num.Power) s text known h)
-power_goes sign.Digit s b text e h known = more_digits sign.Digit (Behind s) b text refl e (on (at.Number num.Power) s text known h)
+power_goes sign.Zero s b text e h known = more_digits sign.Zero (AfterValue s) b text refl e (on (at.Number num.Power) s text known h)
+power_goes sign.Digit s b text e h known = more_digits sign.Digit (AfterValue s) b text refl e (on (at.Number num.Power) s text known h)
 power_goes x s b text e h known = both no_more (end_goes x s b text e h known)
 
 fraction_goes : (x : Sign) (s : List Open) (b : ℕ) (text : List ℕ) → sign_of b ≡ x → Accepts s (at_number num.Fraction (head_of s) x) text → Known text
     → NumberThen num.Fraction s (b ∷ text)
-fraction_goes sign.Zero s b text e h known = more_digits sign.Zero (Then HasExponent (Behind s)) b text refl e (on (at.Number num.Fraction) s text known h)
-fraction_goes sign.Digit s b text e h known = more_digits sign.Digit (Then HasExponent (Behind s)) b text refl e (on (at.Number num.Fraction) s text known h)
+fraction_goes sign.Zero s b text e h known = more_digits sign.Zero (Then HasExponent (AfterValue s)) b text refl e (on (at.Number num.Fraction) s text known h)
+fraction_goes sign.Digit s b text e h known = more_digits sign.Digit (Then HasExponent (AfterValue s)) b text refl e (on (at.Number num.Fraction) s text known h)
 fraction_goes sign.Exponent s b text e h known = both no_more (on (at.Number num.Exponent) s text known h b (exponents b (ap exponent_sign e)))
 fraction_goes x s b text e h known = both no_more (both no_exponent (end_goes x s b text e h known))
 
@@ -523,8 +523,8 @@ zero_goes sign.Exponent s b text e h known = then_map (on (at.Number num.Exponen
 zero_goes x s b text e h known = both (no_fraction no_exponent) (end_goes x s b text e h known)
 
 whole_goes : (x : Sign) (s : List Open) (b : ℕ) (text : List ℕ) → sign_of b ≡ x → Accepts s (at_number num.Whole (head_of s) x) text → Known text → NumberThen num.Whole s (b ∷ text)
-whole_goes sign.Zero s b text e h known = more_digits sign.Zero (Then HasFraction (Behind s)) b text refl e (on (at.Number num.Whole) s text known h)
-whole_goes sign.Digit s b text e h known = more_digits sign.Digit (Then HasFraction (Behind s)) b text refl e (on (at.Number num.Whole) s text known h)
+whole_goes sign.Zero s b text e h known = more_digits sign.Zero (Then HasFraction (AfterValue s)) b text refl e (on (at.Number num.Whole) s text known h)
+whole_goes sign.Digit s b text e h known = more_digits sign.Digit (Then HasFraction (AfterValue s)) b text refl e (on (at.Number num.Whole) s text known h)
 whole_goes x s b text e h known = both no_more (zero_goes x s b text e h known)
 
 minus_zero : (s : List Open) (text : List ℕ) → NumberThen num.Zero s text → NumberThen num.Minus s (48 ∷ text)
@@ -548,16 +548,16 @@ first_goes n Q _ s b text e f h known = cc
 exponent_goes : (x : Sign) (s : List Open) (b : ℕ) (text : List ℕ) → sign_of b ≡ x → Accepts s (at_number num.Exponent (head_of s) x) text → Known text → NumberThen num.Exponent s (b ∷ text)
 exponent_goes sign.Plus s b text e h known = λ a i. exponent_signed s a b text i (inl (byte_of sign.Plus b e refl)) (on (at.Number num.Sign) s text known h)
 exponent_goes sign.Minus s b text e h known = λ a i. exponent_signed s a b text i (inr (byte_of sign.Minus b e refl)) (on (at.Number num.Sign) s text known h)
-exponent_goes x s b text e h known = λ a i. exponent_of s a (b ∷ text) i (first_goes num.Power (Behind s) x s b text e (λ q. q) h known)
+exponent_goes x s b text e h known = λ a i. exponent_of s a (b ∷ text) i (first_goes num.Power (AfterValue s) x s b text e (λ q. q) h known)
 
 number_goes : (n : Number) (s : List Open) (b : ℕ) (text : List ℕ) → Accepts s (at_number n (head_of s) (sign_of b)) text → Known text → NumberThen n s (b ∷ text)
 number_goes num.Minus s b text h known = minus_goes (sign_of b) s b text refl h known
 number_goes num.Zero s b text h known = zero_goes (sign_of b) s b text refl h known
 number_goes num.Whole s b text h known = whole_goes (sign_of b) s b text refl h known
-number_goes num.Point s b text h known = first_goes num.Fraction (Then HasExponent (Behind s)) (sign_of b) s b text refl (λ q. q) h known
+number_goes num.Point s b text h known = first_goes num.Fraction (Then HasExponent (AfterValue s)) (sign_of b) s b text refl (λ q. q) h known
 number_goes num.Fraction s b text h known = fraction_goes (sign_of b) s b text refl h known
 number_goes num.Exponent s b text h known = exponent_goes (sign_of b) s b text refl h known
-number_goes num.Sign s b text h known = first_goes num.Power (Behind s) (sign_of b) s b text refl (λ q. q) h known
+number_goes num.Sign s b text h known = first_goes num.Power (AfterValue s) (sign_of b) s b text refl (λ q. q) h known
 number_goes num.Power s b text h known = power_goes (sign_of b) s b text refl h known
 
 -- ---- the whole text

@@ -114,7 +114,7 @@ unfolding after_number
 numbers text rest (own.positive u) h = rw (unsigned_minus text rest u) (wholes text rest u h)
 numbers _ rest (own.negative {text} u) h = wholes text rest u h
 
--- ---- the token of a number, and the lexer behind it
+-- ---- the token of a number, and the lexer after it
 
 number_of : (t rest : List ℕ) → Ends rest → (s : List ℕ) × (number_before t (Some rest) ≡ kit.number s)
 number_of t rest h = (take (length t - length rest) t, rw h refl)
@@ -191,7 +191,7 @@ unfolding lex
 lex_end [] h = refl
 lex_end (b ∷ t) h = let x = no_quote b h in rw (x.0, x.1) (end_class (is_operator b) (is_space b) b t (λ next. lex next t) h)
 
--- a token, and the lexer behind it
+-- a token, and the lexer after it
 pub record Lexes (text rest : List ℕ) (is_it : Token → Type 0) : Type 0 where
   pub the_token : Token
   pub fits : is_it the_token

@@ -188,7 +188,7 @@ unit_digits _ rest (own.below {b} {c} {text} v w h) =
       range = inl (below_range (hex_value b) (hex_value c) (hex_value x.c) (hex_value x.d) v w x.c_hex x.d_hex);
     }
 
--- what a string comes to: its content, and the lexer behind it
+-- what a string comes to: its content, and the lexer after it
 pub record Reads (text rest : List ℕ) : Type 0 where
   pub content_is : List ℕ
   pub content_of : content kit.plain text ≡ Some content_is

@@ -9,7 +9,7 @@ use Rattle.tmpl_formats.proofs.PatternLinesLemmas.{line_within}
 use Rattle.tmpl_formats.proofs.PatternSearchLemmas.{finds_so, finds_back}
 use Rattle.tmpl_formats.specs.Pattern.{Finds}
 use Rattle.tmpl_formats.specs.computed.Format.{utf8_mistake}
-use Rattle.tmpl_formats.specs.computed.Lines.{line_fault, or_behind, last_fault, faults, lines_mistake}
+use Rattle.tmpl_formats.specs.computed.Lines.{line_fault, or_later, last_fault, faults, lines_mistake}
 use Rattle.tmpl_formats.specs.computed.PatternMarks.{begun, finds}
 use Rattle.tmpl_formats.specs.PatternView.{Marks, plain}
 
@@ -53,7 +53,7 @@ faults_other : (t : Marks) (line rest : List ℕ) (b : ℕ) → b ≢ 10 → fau
 unfolding faults
 faults_other t line rest b h = rw (not_newline b h) refl
 
-faults_newline : (t : Marks) (line rest : List ℕ) (b : ℕ) → b ≡ 10 → faults t line (b ∷ rest) ≡ or_behind (line_fault t line) (length line) (faults t [] rest)
+faults_newline : (t : Marks) (line rest : List ℕ) (b : ℕ) → b ≡ 10 → faults t line (b ∷ rest) ≡ or_later (line_fault t line) (length line) (faults t [] rest)
 unfolding faults
 faults_newline t line rest b h = rw (is_newline b h) refl
 
@@ -78,7 +78,7 @@ line-goes_on t text start offset lt at other =
 
 -- a newline
 at_newline : (t : Marks) (text : List ℕ) (start offset : ℕ) → offset < length text → IsAtLine t text start offset → get_or text offset 0 ≡ 10
-    → option_map (λ n. start + n) (or_behind (line_fault t (take (offset - start) (drop start text))) (length (take (offset - start) (drop start text))) (faults t [] (drop (offset + 1) text)))
+    → option_map (λ n. start + n) (or_later (line_fault t (take (offset - start) (drop start text))) (length (take (offset - start) (drop start text))) (faults t [] (drop (offset + 1) text)))
     ≡ lines_mistake t text
 at_newline t text start offset lt at newline =
     let line = take (offset - start) (drop start text) in
@@ -89,9 +89,9 @@ pub line-refused : (t : Marks) (text : List ℕ) (start offset n : ℕ) → offs
     → Some n ≡ line_fault t (take (offset - start) (drop start text)) → Some (start + n) ≡ lines_mistake t text
 line-refused t text start offset n lt at newline e = rw (← e) at (at_newline t text start offset lt at newline)
 
-behind : (r : Option ℕ) (start k next : ℕ) → start + k + 1 ≡ next → option_map (λ n. next + n) r ≡ option_map (λ n. start + n) (option_map (λ n. k + 1 + n) r)
-behind None start k next e = refl
-behind (Some n) start k next e = let f : next + n ≡ start + (k + 1 + n) = omega arith in ap Some f
+from_next : (r : Option ℕ) (start k next : ℕ) → start + k + 1 ≡ next → option_map (λ n. next + n) r ≡ option_map (λ n. start + n) (option_map (λ n. k + 1 + n) r)
+from_next None start k next e = refl
+from_next (Some n) start k next e = let f : next + n ≡ start + (k + 1 + n) = omega arith in ap Some f
 
 no_line_yet : (n : ℕ) (xs : List ℕ) → take (n - n) xs ≡ []
 no_line_yet n xs = let e : n - n ≡ 0 = omega arith in ap (λ k. take k xs) e
@@ -105,7 +105,7 @@ line-next t text start offset lt at newline e =
     let long : length line ≡ offset - start = length-take-le (offset - start) (drop start text) (omega (arith, length-drop start text)) in
     let next : start + length line + 1 ≡ offset + 1 = omega arith in
     let h = rw (← e) at (at_newline t text start offset lt at newline) in
-    record { before = omega arith; same = ap (λ l. option_map (λ n. offset + 1 + n) (faults t l rest)) (no_line_yet (offset + 1) (drop (offset + 1) text)) ∙ (behind (faults t [] rest) start (length line) (offset + 1) next ∙ h) }
+    record { before = omega arith; same = ap (λ l. option_map (λ n. offset + 1 + n) (faults t l rest)) (no_line_yet (offset + 1) (drop (offset + 1) text)) ∙ (from_next (faults t [] rest) start (length line) (offset + 1) next ∙ h) }
 
 -- the end of the text
 faults_end : (t : Marks) (line : List ℕ) → faults t line [] ≡ last_fault t line

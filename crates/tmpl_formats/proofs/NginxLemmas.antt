@@ -100,7 +100,7 @@ doubles b = grind (arith, common_steps)
 singles : (b : ℕ) → single_sign (sign_of b) ≡ true → (not (b == 0) && not (b == 92) && not (b == 39)) ≡ true
 singles b = grind (arith, common_steps)
 
--- ---- what is left, with so many blocks open
+-- ---- what is left, with this many blocks open
 
 data BodyThen : ℕ → List ℕ → Type 0 where
   whole : {text : List ℕ} → HasBody text [] → BodyThen 0 text

@@ -168,7 +168,7 @@ kept-shifted first c (Many x ended) e =
 
 -- ---- a character is read
 
--- behind a character: from a mark, or nothing was read
+-- after a character: from a mark, or nothing was read
 abbrev pub Went : Marks → Bool → Place → (b : List ℕ) (c : ℕ) (s : List ℕ) → Type 0
 Went t e next b c s = Rest (shifted (is_nil b) c t e) next (b ++ c ∷ []) s ⊎ ((passes (is_nil b) t e ≡ true) × next b (c ∷ s))
 

@@ -96,9 +96,9 @@ two-parts e text rest old mid new a b all same second first h =
     let P : Tree → Type 0 = λ t. HasPiece e f.0 t rest in
     (f.0, f.1, subst P (sym same) (joins e f.0 s.0 rest a b f.2 s.2))
 
-same_behind : (e : Bool) (text more : List ℕ) → separator e ++ text ≡ separator e ++ more → text ≡ more
-same_behind true text more e = cc
-same_behind false text more e = e
+same_after : (e : Bool) (text more : List ℕ) → separator e ++ text ≡ separator e ++ more → text ≡ more
+same_after true text more e = cc
+same_after false text more e = e
 
 row_end : (e : Bool) (text rest : List ℕ) → HasRow e text [] rest → text ≡ rest
 row_end e text _ no_piece = refl
@@ -110,7 +110,7 @@ no_items (x ∷ xs) e = absurd (omega arith)
 pub whole-row : (e : Bool) (text rest : List ℕ) (new : List Node) (t : Tree) → length new ≡ 0 → Ended e (separator e ++ text) (trees_of new) t rest → HasPiece e text t rest
 whole-row e text rest new t empty h =
     let P : List Node → Type 0 = λ ns. HasRow e (separator e ++ text) (trees_of ns) (separator e ++ h.0) in
-    rw (same_behind e text h.0 (row_end e (separator e ++ text) (separator e ++ h.0) (subst P (no_items new empty) h.1))) h.2
+    rw (same_after e text h.0 (row_end e (separator e ++ text) (separator e ++ h.0) (subst P (no_items new empty) h.1))) h.2
 
 push : (e : Bool) (text next end rest : List ℕ) (trees : List Tree) (t : Tree) → end ≡ separator e ++ next → HasRow e text trees end → HasPiece e next t rest → HasRow e text (trees ++ t ∷ []) rest
 push e _ next end rest _ t is no_piece p = rw is (piece next p no_piece)

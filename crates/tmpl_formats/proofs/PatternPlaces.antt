@@ -1,4 +1,4 @@
--- Matches by what holds behind them: at a place in a text, so that no part of the text has to be named.
+-- Matches by what holds after them: at a place in a text, so that no part of the text has to be named.
 use Rattle.std.proofs.Common.{◌≡◌, ◌⊎◌, inl, inr, ℕ, zero, suc, true, List, [], ◌∷◌, ◌++◌, refl, ap, sym, ◌∙◌, subst, append_assoc}
 use Rattle.tmpl_formats.specs.Pattern.{Tree, Empty, One, Begin, End, Both, Either, Many, Part, Turns, Has, Finds, in_class}
 
@@ -13,12 +13,12 @@ Place = List ℕ → List ℕ → Type 0
 abbrev pub Any : Place
 Any b s = Unit {0}
 
--- so many turns, and then `next`
+-- this many turns, and then `next`
 abbrev pub Rounds : (Place → Place) → Place → ℕ → Place
 Rounds turn next zero before text = next before text
 Rounds turn next (suc n) before text = turn (Rounds turn next n) before text
 
--- at this place there is a match of the tree behind which `next` holds
+-- at this place there is a match of the tree after which `next` holds
 abbrev pub Leads : Tree → Place → Place
 Leads Empty next before text = next before text
 Leads (One is_negated spans) next before text =
@@ -89,8 +89,8 @@ joined next other has Is_one Is_other b part after first second h k =
     let P : List ℕ → Type 0 = λ p. next (b ++ p) after in
     let Q : List ℕ → Type 0 = λ d. next d after in
     let R : List ℕ → Type 0 = λ s. has other b s in
-    let behind = second (b ++ h.0) h.1 after h.4 (subst Q (sym (append_assoc b h.0 h.1)) (subst P h.2 k)) in
-    subst R (sym (ap (λ r. r ++ after) h.2 ∙ append_assoc h.0 h.1 after)) (first b h.0 (h.1 ++ after) h.3 behind)
+    let later = second (b ++ h.0) h.1 after h.4 (subst Q (sym (append_assoc b h.0 h.1)) (subst P h.2 k)) in
+    subst R (sym (ap (λ r. r ++ after) h.2 ∙ append_assoc h.0 h.1 after)) (first b h.0 (h.1 ++ after) h.3 later)
 
 rounds_of_parts : (Is : Part) (has : Place → Place) (next : Place)
     → ((next : Place) (b part after : List ℕ) → Is b part after → next (b ++ part) after → has next b (part ++ after))

@@ -25,32 +25,32 @@ pub data Then (P : List Token → List Token → Type 0) (Q : List Token → Typ
   both : {ts rest : List Token} → P ts rest → Q rest → Then P Q ts
 
 -- after a value, outside brackets
-pub data BehindLevels : List Level → List Token → Type 0 where
-  all_closed : BehindLevels [] []
-  before_marker : {ts : List Token} → IsDocuments ts → BehindLevels [] (token.Marker ∷ ts)
-  in_map : {c : ℕ} {ls : List Level} {ts more : List Token} → HasKeys c ts more → BehindLevels ls more → BehindLevels (lev.Map c ∷ ls) ts
-  in_sequence : {c : ℕ} {ls : List Level} {ts more : List Token} → HasItems c ts more → BehindLevels ls more → BehindLevels (lev.Sequence c ∷ ls) ts
+pub data AfterBlock : List Level → List Token → Type 0 where
+  all_closed : AfterBlock [] []
+  before_marker : {ts : List Token} → IsDocuments ts → AfterBlock [] (token.Marker ∷ ts)
+  in_map : {c : ℕ} {ls : List Level} {ts more : List Token} → HasKeys c ts more → AfterBlock ls more → AfterBlock (lev.Map c ∷ ls) ts
+  in_sequence : {c : ℕ} {ls : List Level} {ts more : List Token} → HasItems c ts more → AfterBlock ls more → AfterBlock (lev.Sequence c ∷ ls) ts
 
 -- after a value
-pub data Behind (ls : List Level) : List Bracket → List Token → Type 0 where
-  no_bracket : {ts : List Token} → BehindLevels ls ts → Behind ls [] ts
-  closes : {k : Bracket} {bs : List Bracket} {ts : List Token} → Behind ls bs ts → Behind ls (k ∷ bs) (token.Close k ∷ ts)
-  goes_on : {k : Bracket} {bs : List Bracket} {ts more : List Token} → HasInside k ts more → Behind ls bs more → Behind ls (k ∷ bs) (token.Comma ∷ ts)
+pub data AfterValue (ls : List Level) : List Bracket → List Token → Type 0 where
+  no_bracket : {ts : List Token} → AfterBlock ls ts → AfterValue ls [] ts
+  closes : {k : Bracket} {bs : List Bracket} {ts : List Token} → AfterValue ls bs ts → AfterValue ls (k ∷ bs) (token.Close k ∷ ts)
+  goes_on : {k : Bracket} {bs : List Bracket} {ts more : List Token} → HasInside k ts more → AfterValue ls bs more → AfterValue ls (k ∷ bs) (token.Comma ∷ ts)
 
 abbrev pub Waiting : List Level → List Bracket → List Token → Type 0
-Waiting [] [] ts = Then (HasNode 0) (BehindLevels []) ts
-Waiting (lev.Map c ∷ ls) [] ts = Then (HasValue c) (BehindLevels (lev.Map c ∷ ls)) ts
-Waiting (lev.Sequence c ∷ ls) [] ts = Then (HasNode (suc c)) (BehindLevels (lev.Sequence c ∷ ls)) ts
-Waiting ls (k ∷ bs) ts = Then HasFlow (Behind ls (k ∷ bs)) ts
+Waiting [] [] ts = Then (HasNode 0) (AfterBlock []) ts
+Waiting (lev.Map c ∷ ls) [] ts = Then (HasValue c) (AfterBlock (lev.Map c ∷ ls)) ts
+Waiting (lev.Sequence c ∷ ls) [] ts = Then (HasNode (suc c)) (AfterBlock (lev.Sequence c ∷ ls)) ts
+Waiting ls (k ∷ bs) ts = Then HasFlow (AfterValue ls (k ∷ bs)) ts
 
 abbrev pub Inside : List Level → List Bracket → List Token → Type 0
 Inside ls [] ts = Unit {0}
-Inside ls (k ∷ bs) ts = Then (HasInside k) (Behind ls bs) ts
+Inside ls (k ∷ bs) ts = Then (HasInside k) (AfterValue ls bs) ts
 
 abbrev pub LeftAt : Expects → List Level → List Bracket → List Token → Type 0
 LeftAt expects.Value ls bs ts = Waiting ls bs ts
 LeftAt expects.Entry ls bs ts = Inside ls bs ts
-LeftAt expects.Nothing ls bs ts = Behind ls bs ts
+LeftAt expects.Nothing ls bs ts = AfterValue ls bs ts
 
 abbrev pub Left : Nest → List Token → Type 0
 Left n ts = LeftAt n.awaited n.levels n.brackets ts
@@ -70,7 +70,7 @@ changes true x n ts p = (refl, p)
 changes false x n ts p = absurd p
 
 -- nothing stands for a value that is wanted
-null_value : (e : Expects) (ls : List Level) (ts : List Token) → BehindLevels ls ts → LeftAt e ls [] ts
+null_value : (e : Expects) (ls : List Level) (ts : List Token) → AfterBlock ls ts → LeftAt e ls [] ts
 null_value expects.Value (lev.Map c ∷ ls) ts b = both (beyond nothing) b
 null_value expects.Entry ls ts b = tt
 null_value expects.Nothing ls ts b = no_bracket b
@@ -92,7 +92,7 @@ same_of : (a b : ℕ) → (a == b) ≡ true → a ≡ b
 same_of a b = grind (arith, common_steps)
 
 -- a node, where a value is wanted
-a_node : (ls : List Level) (c : ℕ) (ts more : List Token) → IsDeeper c ls → ((least : ℕ) → least ≤ c → HasNode least ts more) → BehindLevels ls more → Waiting ls [] ts
+a_node : (ls : List Level) (c : ℕ) (ts more : List Token) → IsDeeper c ls → ((least : ℕ) → least ≤ c → HasNode least ts more) → AfterBlock ls more → Waiting ls [] ts
 a_node [] c ts more d f b = both (f 0 zero-le) b
 a_node (lev.Map own ∷ ls) c ts more d f b = both (beyond (f (suc own) d)) b
 a_node (lev.Sequence own ∷ ls) c ts more d f b = both (f (suc own) d) b
@@ -104,10 +104,10 @@ map_node : (ls : List Level) (c : ℕ) (ts : List Token) → IsDeeper c ls → W
 map_node ls c ts d (both v (in_map {more} ks b)) = a_node ls c (token.Key c ∷ ts) more d (λ least le. a_map le (a_key v ks)) b
 
 -- one item more, one key more
-next_item : (ls : List Level) (c : ℕ) (ts : List Token) → Waiting (lev.Sequence c ∷ ls) [] ts → BehindLevels (lev.Sequence c ∷ ls) (token.Item c ∷ ts)
+next_item : (ls : List Level) (c : ℕ) (ts : List Token) → Waiting (lev.Sequence c ∷ ls) [] ts → AfterBlock (lev.Sequence c ∷ ls) (token.Item c ∷ ts)
 next_item ls c ts (both n (in_sequence is b)) = in_sequence (an_item n is) b
 
-next_key : (ls : List Level) (c : ℕ) (ts : List Token) → Waiting (lev.Map c ∷ ls) [] ts → BehindLevels (lev.Map c ∷ ls) (token.Key c ∷ ts)
+next_key : (ls : List Level) (c : ℕ) (ts : List Token) → Waiting (lev.Map c ∷ ls) [] ts → AfterBlock (lev.Map c ∷ ls) (token.Key c ∷ ts)
 next_key ls c ts (both v (in_map ks b)) = in_map (a_key v ks) b
 
 -- a sequence at the column of its key
@@ -180,7 +180,7 @@ key_fits c e (lev.Map d ∷ ls) ts p = in_map_at (d == c) refl p
     in_map_at false same p = push_at e p
 
 -- an entry in brackets, and what follows it
-entry_inside : (ls : List Level) (k : Bracket) (bs : List Bracket) (ts more : List Token) → HasEntry k ts more → Behind ls (k ∷ bs) more → Inside ls (k ∷ bs) ts
+entry_inside : (ls : List Level) (k : Bracket) (bs : List Bracket) (ts more : List Token) → HasEntry k ts more → AfterValue ls (k ∷ bs) more → Inside ls (k ∷ bs) ts
 entry_inside ls k bs ts _ f (closes b) = both (last_entry f) b
 entry_inside ls k bs ts _ f (goes_on i b) = both (more_entries f i) b
 
@@ -204,7 +204,7 @@ item_at_fits c e ls (k ∷ bs) ts p = absurd p
 
 -- a value that is one token or begins with one, at a column
 holds_fits : (c : ℕ) (e : Expects) (ls : List Level) (t : Token) (ts more : List Token) → holds c e (head_of ls) ≡ true → ((least : ℕ) → least ≤ c → HasNode least (t ∷ ts) more)
-    → BehindLevels ls more → LeftAt e ls [] (t ∷ ts)
+    → AfterBlock ls more → LeftAt e ls [] (t ∷ ts)
 holds_fits c expects.Value [] t ts more h f b = a_node [] c (t ∷ ts) more tt f b
 holds_fits c expects.Value (lev.Map d ∷ ls) t ts more h f b = a_node (lev.Map d ∷ ls) c (t ∷ ts) more (less d c h) f b
 holds_fits c expects.Value (lev.Sequence d ∷ ls) t ts more h f b = a_node (lev.Sequence d ∷ ls) c (t ∷ ts) more (less d c h) f b
@@ -215,7 +215,7 @@ holds_fits c expects.Nothing (lev.Map d ∷ ls) t ts more h f b = cc
 holds_fits c expects.Nothing (lev.Sequence d ∷ ls) t ts more h f b = cc
 
 -- the same in brackets
-holds_in_fits : (e : Expects) (ls : List Level) (k : Bracket) (bs : List Bracket) (ts more : List Token) → holds_in e k ≡ true → HasFlow ts more → Behind ls (k ∷ bs) more
+holds_in_fits : (e : Expects) (ls : List Level) (k : Bracket) (bs : List Bracket) (ts more : List Token) → holds_in e k ≡ true → HasFlow ts more → AfterValue ls (k ∷ bs) more
     → LeftAt e ls (k ∷ bs) ts
 holds_in_fits expects.Entry ls bracket.List bs ts more h f b = entry_inside ls bracket.List bs ts more (element f) b
 holds_in_fits expects.Value ls bracket.Map bs ts more h f b = both f b
@@ -224,23 +224,23 @@ holds_in_fits expects.Nothing ls bracket.List bs ts more h f b = cc
 holds_in_fits expects.Entry ls bracket.Map bs ts more h f b = cc
 holds_in_fits expects.Nothing ls bracket.Map bs ts more h f b = cc
 
-levels_behind : (ls : List Level) (ts : List Token) → Behind ls [] ts → BehindLevels ls ts
-levels_behind ls ts (no_bracket b) = b
+block_of : (ls : List Level) (ts : List Token) → AfterValue ls [] ts → AfterBlock ls ts
+block_of ls ts (no_bracket b) = b
 
 scalar_fits : (c : ℕ) (e : Expects) (ls : List Level) (bs : List Bracket) (ts : List Token)
     → Changed (change_of (token.Scalar c) e (head_of ls) (head_of bs)) (nest_at e ls bs) ts → LeftAt e ls bs (token.Scalar c ∷ ts)
 scalar_fits c e ls [] ts p =
     let q = changes (holds c e (head_of ls)) (change.Expect expects.Nothing) (nest_at e ls []) ts p in
-    holds_fits c e ls (token.Scalar c) ts ts q.0 (λ least le. a_scalar le) (levels_behind ls ts q.1)
+    holds_fits c e ls (token.Scalar c) ts ts q.0 (λ least le. a_scalar le) (block_of ls ts q.1)
 scalar_fits c e ls (k ∷ bs) ts p =
     let q = changes (holds_in e k) (change.Expect expects.Nothing) (nest_at e ls (k ∷ bs)) ts p in holds_in_fits e ls k bs (token.Scalar c ∷ ts) ts q.0 flow_scalar q.1
 
-open_block : (c : ℕ) (e : Expects) (ls : List Level) (own : Bracket) (ts : List Token) → holds c e (head_of ls) ≡ true → Then (HasInside own) (Behind ls []) ts
+open_block : (c : ℕ) (e : Expects) (ls : List Level) (own : Bracket) (ts : List Token) → holds c e (head_of ls) ≡ true → Then (HasInside own) (AfterValue ls []) ts
     → LeftAt e ls [] (token.Open own c ∷ ts)
-open_block c e ls own ts h (both {rest} i b) = holds_fits c e ls (token.Open own c) ts rest h (λ least le. brackets le i) (levels_behind ls rest b)
+open_block c e ls own ts h (both {rest} i b) = holds_fits c e ls (token.Open own c) ts rest h (λ least le. brackets le i) (block_of ls rest b)
 
 open_inside : (c : ℕ) (e : Expects) (ls : List Level) (k : Bracket) (bs : List Bracket) (own : Bracket) (ts : List Token) → holds_in e k ≡ true
-    → Then (HasInside own) (Behind ls (k ∷ bs)) ts → LeftAt e ls (k ∷ bs) (token.Open own c ∷ ts)
+    → Then (HasInside own) (AfterValue ls (k ∷ bs)) ts → LeftAt e ls (k ∷ bs) (token.Open own c ∷ ts)
 open_inside c e ls k bs own ts h (both {rest} i b) = holds_in_fits e ls k bs (token.Open own c ∷ ts) rest h (flow_open i) b
 
 opened_fits : (own : Bracket) (c : ℕ) (e : Expects) (ls : List Level) (bs : List Bracket) (ts : List Token)
@@ -273,7 +273,7 @@ pub documents_of : (ts : List Token) → Waiting [] [] ts → IsDocuments ts
 documents_of ts (both n all_closed) = last_document n
 documents_of ts (both n (before_marker d)) = more_documents n d
 
-all_end : (ls : List Level) (ts : List Token) → BehindLevels [] ts → BehindLevels ls ts
+all_end : (ls : List Level) (ts : List Token) → AfterBlock [] ts → AfterBlock ls ts
 all_end [] ts b = b
 all_end (lev.Map c ∷ ls) ts b = in_map no_key (all_end ls ts b)
 all_end (lev.Sequence c ∷ ls) ts b = in_sequence no_item (all_end ls ts b)
@@ -298,7 +298,7 @@ taken_fits : (t : Token) (n : Nest) (ts : List Token) → Fits (taken t n) ts �
 taken_fits t n ts p = taken_at t n.awaited n.levels n.brackets ts p
 
 -- one level less
-one_ends : (l : Level) (ls : List Level) (ts : List Token) → BehindLevels ls ts → BehindLevels (l ∷ ls) ts
+one_ends : (l : Level) (ls : List Level) (ts : List Token) → AfterBlock ls ts → AfterBlock (l ∷ ls) ts
 one_ends (lev.Map c) ls ts b = in_map no_key b
 one_ends (lev.Sequence c) ls ts b = in_sequence no_item b
 
@@ -307,9 +307,9 @@ unfolding unwound_from
 unwound_fits [] c is_item e ts p = p
 unwound_fits (l ∷ ls) c is_item e ts p = by_test (is_over l c is_item) (λ q. unwound_fits ls c is_item expects.Nothing ts q) p
   where
-    by_test : (t : Bool) → (Left (unwound_from c is_item expects.Nothing ls []) ts → Behind ls [] ts)
+    by_test : (t : Bool) → (Left (unwound_from c is_item expects.Nothing ls []) ts → AfterValue ls [] ts)
         → Left (cond t (unwound_from c is_item expects.Nothing ls []) (nest_at e (l ∷ ls) [])) ts → LeftAt e (l ∷ ls) [] ts
-    by_test true less_one p = null_value e (l ∷ ls) ts (one_ends l ls ts (levels_behind ls ts (less_one p)))
+    by_test true less_one p = null_value e (l ∷ ls) ts (one_ends l ls ts (block_of ls ts (less_one p)))
     by_test false less_one p = p
 
 settled_fits : (t : Bool) (c : ℕ) (is_item : Bool) (e : Expects) (ls : List Level) (ts : List Token)

@@ -119,10 +119,7 @@ impl<'t> Reader<'t> {
     fn begins_range(&self) -> bool
         ensures { result ≡ has_hyphen self.now.rest.now }
     {
-        match self.rest.split_first() {
-            Some((first, more)) => *first == '-' && !starts(more, ']'),
-            None => false,
-        }
+        matches!(self.rest.split_first(), Some((first, more)) if *first == '-' && !starts(more, ']'))
     }
 
     /// Reads what follows a backslash in a class and stands for one character.

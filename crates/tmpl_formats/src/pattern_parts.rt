@@ -20,10 +20,7 @@ pub(crate) struct Times {
 pub(crate) fn is_once(times: Times) -> bool
     ensures { result ≡ true → (times.least ≡ 1) × (times.most ≡ Some 1) }
 {
-    match times.most {
-        Some(most) => times.least == 1 && most == 1,
-        None => false,
-    }
+    times.least == 1 && matches!(times.most, Some(1))
 }
 
 /// Two trees as one.

@@ -19,20 +19,17 @@ pub(crate) struct Reader<'t> {
 pub(crate) fn starts(text: &[char], c: char) -> bool
     ensures { result ≡ begins_with c text.now }
 {
-    match text.split_first() {
-        Some((first, _)) => *first == c,
-        None => false,
-    }
+    matches!(text.split_first(), Some((first, _)) if *first == c)
 }
 
 /// Whether the character has a meaning, which a backslash takes from it.
 pub(crate) fn has_meaning(c: char) -> bool
     ensures { result ≡ is_syntax c }
 {
-    match c {
-        '^' | '$' | '\\' | '.' | '*' | '+' | '?' | '(' | ')' | '[' | ']' | '{' | '}' | '|' => true,
-        _ => false,
-    }
+    matches!(
+        c,
+        '^' | '$' | '\\' | '.' | '*' | '+' | '?' | '(' | ')' | '[' | ']' | '{' | '}' | '|'
+    )
 }
 
 /// Whether a backslash before the character stands for the character itself.
@@ -66,10 +63,7 @@ impl<'t> Reader<'t> {
     fn begins_digit(&self) -> bool
         ensures { result ≡ begins_with_digit self.now.rest.now }
     {
-        match self.rest.split_first() {
-            Some((first, _)) => first.is_ascii_digit(),
-            None => false,
-        }
+        matches!(self.rest.split_first(), Some((first, _)) if first.is_ascii_digit())
     }
 
     /// Reads this character if it is next.
@@ -79,15 +73,11 @@ impl<'t> Reader<'t> {
         ensures begins { result ≡ begins_with c self.old.rest.now }
     {
         match self.rest.split_first() {
-            Some((first, rest)) => {
-                if *first == c {
-                    self.rest = rest;
-                    true
-                } else {
-                    false
-                }
+            Some((first, rest)) if *first == c => {
+                self.rest = rest;
+                true
             }
-            None => false,
+            _ => false,
         }
     }
 
@@ -95,13 +85,9 @@ impl<'t> Reader<'t> {
     pub(crate) fn next(&mut self) -> Option<char>
         ensures { IfSome result (λ c. self.old.rest.now ≡ c ∷ self.new.rest.now) }
     {
-        match self.rest.split_first() {
-            Some((first, rest)) => {
-                self.rest = rest;
-                Some(*first)
-            }
-            None => None,
-        }
+        let (first, rest) = self.rest.split_first()?;
+        self.rest = rest;
+        Some(*first)
     }
 
     /// Reads one digit more of a number, if one is next and the number is then no greater than a code point.

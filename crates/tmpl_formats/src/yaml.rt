@@ -65,10 +65,7 @@ fn write(scalar: &mut Vec<u8>, write: Write) -> Result<(), AllocError>
 {
     match write {
         Write::Keep => Ok(()),
-        Write::Start(byte) => {
-            scalar.clear();
-            Ok(scalar.push(byte)?)
-        }
+        Write::Start(byte) => begin(scalar, b"", byte),
         Write::Add(byte) => Ok(scalar.push(byte)?),
         Write::Dash(byte) => begin(scalar, b"-", byte),
         Write::Dashes(byte) => begin(scalar, b"--", byte),
