@@ -1,5 +1,5 @@
 -- What the machine for CSV accepts is CSV.
-use Rattle.std.proofs.Common.{◌≡◌, ◌≢◌, ℕ, suc, ◌+◌, ◌==◌, Bool, true, false, cond, List, [], ◌∷◌, ◌++◌, Option, Some, None, arith, refl, sym, ◌∙◌, ap, subst, append_assoc, append-nil}
+use Rattle.std.proofs.Common.{◌≡◌, ◌≢◌, ℕ, suc, ◌+◌, ◌==◌, Bool, true, false, cond, List, [], ◌∷◌, ◌++◌, Option, Some, None, arith, refl, ◌∙◌, ap, append_assoc, append-nil}
 use Rattle.std.proofs.lemmas.Grind.{common_steps}
 use Rattle.std.specs.List.{list_all}
 use Rattle.std.specs.Prelude.{not, nat_lt, option_map}
@@ -126,8 +126,7 @@ no_nil b bs e = cc
 record_of : (columns b : ℕ) (text : List ℕ) → FieldsLeft columns 0 (b ∷ text) → IsRecord columns (b ∷ text)
 record_of columns b text (fields_left count e fs) =
     let same : count ≡ columns = omega arith in
-    let P : ℕ → Type 0 = λ n. IsFields n (b ∷ text) in
-    record { fields = subst P same fs; some = no_nil b text }
+    record { fields = rw same at fs; some = no_nil b text }
 
 records_left : (columns : ℕ) (text : List ℕ) → Left columns (IsRecord columns) text → IsCsv columns text
 records_left columns _ (at_last p) = last_record p
@@ -167,13 +166,11 @@ tail_goes : (s : Sign) (columns fields b : ℕ) (text : List ℕ) → sign_of b 
 tail_goes sign.Comma columns fields b text e h known = rw (byte_of sign.Comma b e refl)
     (left-cons columns 44 text (λ t p. a_comma t p) (on_if columns (at.Field (fields + 1)) (nat_lt (fields + 1) columns) text known h).1)
 tail_goes sign.Newline columns fields b text e h known =
-    let P : ℕ → Type 0 = λ n. Left columns (TailLeft columns fields) (n ∷ text) in
     let found = on_if columns at.Start (fields + 1 == columns) text known h in
-    subst P (sym (byte_of sign.Newline b e refl)) (before_more [] (10 ∷ []) text (no_more (equal_of (fields + 1) columns found.0)) newline found.1)
+    rw (byte_of sign.Newline b e refl) (before_more [] (10 ∷ []) text (no_more (equal_of (fields + 1) columns found.0)) newline found.1)
 tail_goes sign.Return columns fields b text e h known =
-    let P : ℕ → Type 0 = λ n. Left columns (TailLeft columns fields) (n ∷ text) in
     let found = on_if columns at.Return (fields + 1 == columns) text known h in
-    subst P (sym (byte_of sign.Return b e refl)) (returned columns fields text (equal_of (fields + 1) columns found.0) found.1)
+    rw (byte_of sign.Return b e refl) (returned columns fields text (equal_of (fields + 1) columns found.0) found.1)
 tail_goes _ columns fields b text e h known = cc
 
 bare_goes : (s : Sign) (columns fields b : ℕ) (text : List ℕ) → sign_of b ≡ s → Accepts columns (after_bare columns fields s) text → Known columns text

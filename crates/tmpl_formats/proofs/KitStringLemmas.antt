@@ -1,5 +1,5 @@
 -- A string of the grammar is one by the definitions of `json`.
-use Rattle.std.proofs.Common.{◌≡◌, ◌≢◌, ◌<◌, ◌≤◌, ◌⊎◌, inl, ℕ, ◌+◌, ◌*◌, ◌==◌, Bool, true, false, cond, List, [], ◌∷◌, ◌++◌, Option, Some, None, arith, refl, sym, ◌∙◌, ap, subst}
+use Rattle.std.proofs.Common.{◌≡◌, ◌≢◌, ◌<◌, ◌≤◌, ◌⊎◌, inl, ℕ, ◌+◌, ◌*◌, ◌==◌, Bool, true, false, cond, List, [], ◌∷◌, ◌++◌, Option, Some, None, arith, refl, ◌∙◌, ap}
 use Rattle.std.proofs.lemmas.Grind.{common_steps}
 use Rattle.std.specs.Char.{is_digit, digit_value, encode_utf8}
 use Rattle.std.specs.Prelude.{nat_lt, is_some}
@@ -36,7 +36,7 @@ is_hex : (b : ℕ) → hex_value b < 16 → is_digit b 16 ≡ true
 is_hex b h = grind (arith, common_steps)
 
 hex_other : (b : ℕ) → hex_value b < 16 → (b ≢ 34) × (b ≢ 92)
-hex_other b h = (λ e. let P : ℕ → Type 0 = λ n. hex_value n < 16 in let f : 16 < 16 = subst P e h in omega arith, λ e. let P : ℕ → Type 0 = λ n. hex_value n < 16 in let f : 16 < 16 = subst P e h in omega arith)
+hex_other b h = (λ e. let f : 16 < 16 = (rw e at h) in omega arith, λ e. let f : 16 < 16 = (rw e at h) in omega arith)
 
 lex_hex : (b : ℕ) (t : List ℕ) → hex_value b < 16 → lex lexer.in_string (b ∷ t) ≡ lex lexer.in_string t
 lex_hex b t h = lex_inside b t (hex_other b h).0 (hex_other b h).1
@@ -267,12 +267,10 @@ after_unit t more rest u r = rw u.is (record {
 
 after_pair : (t more most rest : List ℕ) → Pair4 55296 56320 t (92 ∷ 117 ∷ more) → Pair4 56320 57344 more most → Reads most rest → Reads (92 ∷ 117 ∷ t) rest
 after_pair t more most rest u v r =
-    let P : List ℕ → Type 0 = λ x. Reads (92 ∷ 117 ∷ x) rest in
-    let Q : List ℕ → Type 0 = λ x. Reads (92 ∷ 117 ∷ u.a ∷ u.b ∷ u.c ∷ u.d ∷ 92 ∷ 117 ∷ x) rest in
     let tail = v.a ∷ v.b ∷ v.c ∷ v.d ∷ most in
     let one = unit_value u.a u.b u.c u.d in
     let two = unit_value v.a v.b v.c v.d in
-    subst P (sym u.is) (subst Q (sym v.is) (record {
+    rw (u.is, v.is) (record {
       content_is = encode_utf8 (surrogate_pair one two) ++ r.content_is;
       content_of = unit_content _ _
           (high_unit u.a u.b u.c u.d (92 ∷ 117 ∷ tail) (encode_utf8 (surrogate_pair one two) ++ r.content_is) u.a_hex u.b_hex u.c_hex u.d_hex (are_high one u.least u.most)
@@ -280,7 +278,7 @@ after_pair t more most rest u v r =
       lexed = lex_escape 117 (u.a ∷ u.b ∷ u.c ∷ u.d ∷ 92 ∷ 117 ∷ tail)
           ∙ (lex_unit u.a u.b u.c u.d (92 ∷ 117 ∷ tail) u.a_hex u.b_hex u.c_hex u.d_hex
           ∙ (lex_escape 117 tail ∙ (lex_unit v.a v.b v.c v.d most v.a_hex v.b_hex v.c_hex v.d_hex ∙ r.lexed)));
-    }))
+    })
 
 -- a string of the grammar
 pub string_reads : (text rest : List ℕ) → HasString text rest → Reads text rest

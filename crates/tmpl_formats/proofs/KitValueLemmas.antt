@@ -1,5 +1,5 @@
 -- What is JSON by the grammar is read by the definitions of `json`, where no bound of depth is too small.
-use Rattle.std.proofs.Common.{◌≡◌, ◌<◌, ◌≤◌, ℕ, zero, suc, ◌+◌, Bool, true, false, ◌||◌, List, [], ◌∷◌, length, Some, None, arith, refl, sym, ◌∙◌, subst}
+use Rattle.std.proofs.Common.{◌≡◌, ◌<◌, ◌≤◌, ℕ, zero, suc, ◌+◌, Bool, true, false, ◌||◌, List, [], ◌∷◌, length, Some, None, arith, refl, ◌∙◌}
 use Rattle.std.proofs.lemmas.Grind.{common_steps}
 use Rattle.json.specs.Json as tree
 use Rattle.json.specs.Json.{Json, Items, Members, after_end_array, items, members, value}
@@ -320,20 +320,16 @@ mutual
   items_tokens : (p : Place) (text end rest : List ℕ) → end ≡ 93 ∷ rest → HasItems text end → may_begin p ≡ true
       → Enough (λ depth. Its depth (Tokens p text) (Tokens lexer.after_value rest))
   items_tokens p text end rest e (own.last_item x) m =
-      let F : List ℕ → Type 0 = λ t. Follow t in
-      let V : List ℕ → Type 0 = λ t. Enough (λ depth. Val depth (Tokens p text) (Tokens lexer.after_value t)) in
-      last_of_items p text rest (subst V e (element_tokens p text end x (subst F (sym e) (a_bracket rest)) m))
+      last_of_items p text rest (rw e at (element_tokens p text end x (rw (← e) at (a_bracket rest)) m))
   items_tokens p text end rest e (own.more_items {more = more} x i) m =
       more_of_items p text more rest (element_tokens p text (44 ∷ more) x (a_comma more) m) (items_tokens lexer.after_comma more end rest e i refl)
 
   members_tokens : (p : Place) (text end rest : List ℕ) → end ≡ 125 ∷ rest → HasMembers text end → may_begin p ≡ true
       → Enough (λ depth. Mems depth (Tokens p text) (Tokens lexer.after_value rest))
   members_tokens p text end rest e (own.last_member (own.member {key = key} {after = after} {value = value} s k q x)) m =
-      let F : List ℕ → Type 0 = λ t. Follow t in
-      let V : List ℕ → Type 0 = λ t. Enough (λ depth. Val depth (Tokens lexer.fresh value) (Tokens lexer.after_value t)) in
       let r = string_reads key after k in
       last_of_members p text value rest r.content_is (key_tokens p text key after value s r q m)
-      (subst V e (element_tokens lexer.fresh value end x (subst F (sym e) (a_brace rest)) refl))
+      (rw e at (element_tokens lexer.fresh value end x (rw (← e) at (a_brace rest)) refl))
   members_tokens p text end rest e (own.more_members {more = more} (own.member {key = key} {after = after} {value = value} s k q x) i) m =
       let r = string_reads key after k in
       more_of_members p text value more rest r.content_is (key_tokens p text key after value s r q m)
@@ -343,7 +339,6 @@ mutual
 pub json_read : (text : List ℕ) → IsElement text → IsJson text
 json_read text h =
     let v = element_tokens lexer.fresh text [] h nothing refl in
-    let P : List Token → Type 0 = λ ts. Val v.0 (tokens text) ts in
     let at_end : Tokens lexer.after_value [] ≡ [] = rw lex_nothing end_placed in
-    let found = val_reads v.0 (tokens text) [] (subst P at_end (v.1 v.0 (omega arith))) in
+    let found = val_reads v.0 (tokens text) [] (rw at_end at (v.1 v.0 (omega arith))) in
     (found.0, (v.0, found.1))

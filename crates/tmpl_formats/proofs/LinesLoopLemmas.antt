@@ -1,5 +1,5 @@
 -- Lines are gone over byte by byte.
-use Rattle.std.proofs.Common.{◌≡◌, ◌≢◌, ◌≤◌, ◌<◌, ◌+◌, ◌-◌, ◌==◌, ℕ, Bool, true, false, cond, List, [], ◌∷◌, ◌++◌, length, take, drop, get_or, Option, Some, None, refl, ap, sym, ◌∙◌, subst, arith, length-drop}
+use Rattle.std.proofs.Common.{◌≡◌, ◌≢◌, ◌≤◌, ◌<◌, ◌+◌, ◌-◌, ◌==◌, ℕ, Bool, true, false, cond, List, [], ◌∷◌, ◌++◌, length, take, drop, get_or, Option, Some, None, refl, ap, sym, ◌∙◌, arith, length-drop}
 use Rattle.std.proofs.lemmas.Grind.{common_steps}
 use Rattle.std.proofs.lemmas.List.{at_drop_more, at_drop_all, take_more, get_or-drop, take_all, length-take-le}
 use Rattle.std.proofs.lemmas.Str.{IsUtf8-from_is_utf8, is_utf8-from_IsUtf8}
@@ -27,14 +27,12 @@ fault_of t line found u e = rw (u, e) refl
 
 pub good_line : (t : Marks) (line text : List ℕ) (r : Bool) → text ≡ line → IsUtf8 line → r ≡ true → IsTrue r ↔ Finds (plain t) (chars text) → None ≡ line_fault t line
 good_line t line text r same u e both =
-    let P : List ℕ → Type 0 = λ s. Finds (plain t) (chars s) in
-    fault_of t line true (is_utf8-from_IsUtf8 line u) (finds_back t (chars line) (subst P same (both.0 e)))
+    fault_of t line true (is_utf8-from_IsUtf8 line u) (finds_back t (chars line) (rw same at (both.0 e)))
 
 pub no_match : (t : Marks) (line text : List ℕ) (r : Bool) → text ≡ line → IsUtf8 line → r ≡ false → IsTrue r ↔ Finds (plain t) (chars text) → Some 0 ≡ line_fault t line
 no_match t line text r same u e both =
-    let P : List ℕ → Type 0 = λ s. Finds (plain t) (chars s) in
     fault_of t line false (is_utf8-from_IsUtf8 line u)
-    (not_true (finds (begun t) (chars line)) (λ h. let yes = both.1 (subst P (sym same) (finds_so t (chars line) h)) in let no : r ≡ false = e in absurd (cc)))
+    (not_true (finds (begun t) (chars line)) (λ h. let yes = both.1 (rw (← same) at (finds_so t (chars line) h)) in let no : r ≡ false = e in absurd (cc)))
 
 -- ---- all lines
 

@@ -1,5 +1,5 @@
 -- Runs of machines.
-use Rattle.std.proofs.Common.{◌≡◌, ◌+◌, ◌<◌, ◌≤◌, ℕ, Bool, true, false, cond, List, [], ◌∷◌, length, drop, get_or, Option, Some, None, refl, ap, sym, ◌∙◌, subst, arith, add-one, take, ◌++◌}
+use Rattle.std.proofs.Common.{◌≡◌, ◌+◌, ◌<◌, ◌≤◌, ℕ, Bool, true, false, cond, List, [], ◌∷◌, length, drop, get_or, Option, Some, None, refl, ap, sym, ◌∙◌, arith, add-one, take, ◌++◌}
 use Rattle.std.specs.Prelude.{option_map}
 use Rattle.std.proofs.Math.Seq.{drop-cons, drop-length}
 use Rattle.std.specs.List.{list_all}
@@ -60,16 +60,13 @@ at_end step ends start text c at = rw (drop-length text) at at.same
 
 pub ended : {C : Type 0} (step : C → ℕ → Option C) (ends : C → Bool) (start : C) (text : List ℕ) (count : ℕ) (c : C) → count ≡ length text
     → IsAt step ends start text count c → ends c ≡ true → None ≡ mistake step ends start text
-ended step ends start text count c is at e =
-    let P : ℕ → Type 0 = λ n. IsAt step ends start text n c in
-    rw e at (at_end step ends start text c (subst P is at))
+ended step ends start text count c is at e = rw e at (at_end step ends start text c (rw is at at))
 
 pub cut_short : {C : Type 0} (step : C → ℕ → Option C) (ends : C → Bool) (start : C) (text : List ℕ) (count : ℕ) (c : C) → count ≡ length text
     → IsAt step ends start text count c → ends c ≡ false → Some (length text) ≡ mistake step ends start text
 cut_short step ends start text count c is at e =
-    let P : ℕ → Type 0 = λ n. IsAt step ends start text n c in
     let here : Some (length text) ≡ Some (length text + 0) = ap Some (let e : length text ≡ length text + 0 = omega arith in e) in
-    here ∙ rw e at (at_end step ends start text c (subst P is at))
+    here ∙ rw e at (at_end step ends start text c (rw is at at))
 
 later_within : (r : Option ℕ) (most : ℕ) → ((n : ℕ) → r ≡ Some n → n ≤ most) → (n : ℕ) → option_map (λ n. n + 1) r ≡ Some n → n ≤ most + 1
 later_within None most h n e = cc

@@ -1,5 +1,5 @@
 -- What the machine for configuration files of nginx accepts is one.
-use Rattle.std.proofs.Common.{◌≡◌, ◌≢◌, inl, inr, ℕ, suc, ◌+◌, ◌-◌, ◌^◌, ◌==◌, Bool, true, false, cond, ◌&&◌, List, [], ◌∷◌, Option, Some, None, arith, refl, ◌∙◌, ap, subst, add-one}
+use Rattle.std.proofs.Common.{◌≡◌, ◌≢◌, inl, inr, ℕ, suc, ◌+◌, ◌-◌, ◌^◌, ◌==◌, Bool, true, false, cond, ◌&&◌, List, [], ◌∷◌, Option, Some, None, arith, refl, ◌∙◌, ap, add-one}
 use Rattle.std.proofs.lemmas.Grind.{common_steps}
 use Rattle.std.specs.List.{list_all}
 use Rattle.std.specs.Prelude.{nat_lt, not}
@@ -235,10 +235,9 @@ on_close : (t : Bool) (depth : ℕ) (text : List ℕ) → (depth == 0) ≡ t →
     → BodyThen depth (125 ∷ text)
 on_close true depth text e known h = cc
 on_close false depth text e known h =
-    let P : ℕ → Type 0 = λ n. BodyThen n (125 ∷ text) in
     let some : depth ≢ 0 = unequal_of depth 0 e in
     let same : suc (depth - 1) ≡ depth = omega arith in
-    subst P same (within body_end (on at.Start (depth - 1) text known h))
+    rw (← same) (within body_end (on at.Start (depth - 1) text known h))
 
 -- where a word begins
 word_goes : (x : Sign) (depth b : ℕ) (text : List ℕ) → sign_of b ≡ x → Accepts (at_word depth x) text → Known text → HasWordThen depth (b ∷ text)

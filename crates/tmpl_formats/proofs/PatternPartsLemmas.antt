@@ -1,5 +1,5 @@
 -- Repetitions and rows of parts of regular expressions.
-use Rattle.std.proofs.Common.{◌≡◌, ◌≤◌, ◌+◌, ◌-◌, ℕ, Bool, true, false, List, [], ◌∷◌, ◌++◌, length, Option, Some, None, refl, ap, sym, ◌∙◌, subst, arith}
+use Rattle.std.proofs.Common.{◌≡◌, ◌≤◌, ◌+◌, ◌-◌, ℕ, Bool, true, false, List, [], ◌∷◌, ◌++◌, length, Option, Some, None, refl, ap, ◌∙◌, arith}
 use Rattle.std.specs.Prelude.{IfSome}
 use Rattle.tmpl_formats.specs.Pattern as tree
 use Rattle.tmpl_formats.specs.Pattern.{Tree}
@@ -37,16 +37,11 @@ pub all_turns : (turn some others all : Tree) (least : ℕ) (most : Option ℕ) 
     → IsRepeated turn 0 (further least most) others → IsRepeated turn least most all
 all_turns turn some others all least None le same h k =
     let e : least + 0 ≡ least = omega arith in
-    let P : ℕ → Type 0 = λ c. IsRepeated turn c None (tree.Both some others) in
-    let Q : Tree → Type 0 = λ t. IsRepeated turn least None t in
-    subst Q (sym same) (subst P e (sum h k))
+    rw same (rw e at (sum h k))
 all_turns turn some others all least (Some most) le same h k =
     let e : least + 0 ≡ least = omega arith in
     let f : least + (most - least) ≡ most = omega arith in
-    let P : ℕ → Type 0 = λ c. IsRepeated turn c (Some (least + (most - least))) (tree.Both some others) in
-    let R : ℕ → Type 0 = λ c. IsRepeated turn least (Some c) (tree.Both some others) in
-    let Q : Tree → Type 0 = λ t. IsRepeated turn least (Some most) t in
-    subst Q (sym same) (subst R f (subst P e (sum h k)))
+    rw same (rw f at (rw e at (sum h k)))
 
 -- ---- their bounds are in order
 
@@ -80,8 +75,7 @@ last_piece e _ rest (x ∷ trees) t (piece text {more = more} p row) =
 
 pub last-part : (e : Bool) (text rest : List ℕ) (old new : List Node) (node : Node) → old ≡ new ++ node ∷ [] → HasRow e text (trees_of old) rest → Ended e text (trees_of new) (tree_of node) rest
 last-part e text rest old new node is h =
-    let P : List Tree → Type 0 = λ ts. HasRow e text ts rest in
-    last_piece e text rest (trees_of new) (tree_of node) (subst P (ap trees_of is ∙ trees-push new node) h)
+    last_piece e text rest (trees_of new) (tree_of node) (rw (ap trees_of is ∙ trees-push new node) at h)
 
 joins : (e : Bool) (text mid rest : List ℕ) (a b : Tree) → HasPiece e text a (separator e ++ mid) → HasPiece e mid b rest → HasPiece e text (joint e a b) rest
 joins true text mid rest a b h k = either h k
@@ -93,8 +87,7 @@ pub two-parts : (e : Bool) (text rest : List ℕ) (old mid new : List Tree) (a b
 two-parts e text rest old mid new a b all same second first h =
     let s = second text rest h in
     let f = first text (separator e ++ s.0) s.1 in
-    let P : Tree → Type 0 = λ t. HasPiece e f.0 t rest in
-    (f.0, f.1, subst P (sym same) (joins e f.0 s.0 rest a b f.2 s.2))
+    (f.0, f.1, (rw (← same) at (joins e f.0 s.0 rest a b f.2 s.2)))
 
 same_after : (e : Bool) (text more : List ℕ) → separator e ++ text ≡ separator e ++ more → text ≡ more
 same_after true text more e = cc
@@ -108,9 +101,7 @@ no_items [] e = refl
 no_items (x ∷ xs) e = absurd (omega arith)
 
 pub whole-row : (e : Bool) (text rest : List ℕ) (new : List Node) (t : Tree) → length new ≡ 0 → Ended e (separator e ++ text) (trees_of new) t rest → HasPiece e text t rest
-whole-row e text rest new t empty h =
-    let P : List Node → Type 0 = λ ns. HasRow e (separator e ++ text) (trees_of ns) (separator e ++ h.0) in
-    rw (same_after e text h.0 (row_end e (separator e ++ text) (separator e ++ h.0) (subst P (no_items new empty) h.1))) h.2
+whole-row e text rest new t empty h = rw (same_after e text h.0 (row_end e (separator e ++ text) (separator e ++ h.0) (rw (no_items new empty) at h.1))) h.2
 
 push : (e : Bool) (text next end rest : List ℕ) (trees : List Tree) (t : Tree) → end ≡ separator e ++ next → HasRow e text trees end → HasPiece e next t rest → HasRow e text (trees ++ t ∷ []) rest
 push e _ next end rest _ t is no_piece p = rw is (piece next p no_piece)

@@ -1,5 +1,5 @@
 -- A search finds a match exactly where there is one.
-use Rattle.std.proofs.Common.{◌≡◌, ◌⊎◌, inl, inr, ℕ, zero, suc, Bool, true, false, List, [], ◌∷◌, ◌++◌, refl, ap, sym, subst, append_assoc}
+use Rattle.std.proofs.Common.{◌≡◌, ◌⊎◌, inl, inr, ℕ, zero, suc, Bool, true, false, List, [], ◌∷◌, ◌++◌, refl, ap, append_assoc}
 use Rattle.std.specs.Prelude.{◌||◌}
 use Rattle.tmpl_formats.proofs.PatternLemmas.{and_of, and_both, or_cases, or_left, or_right, is_nil, nil_of, not_nil, and_false, Rest, Goes, Kept, kept-first, kept-shifted, plain-shifted, reads, from_read}
 use Rattle.tmpl_formats.specs.Pattern as tree
@@ -60,26 +60,21 @@ Later p b s = (skip rest : List ℕ) × (s ≡ skip ++ rest) × Leads p Any (b +
 
 later_at : (p : Tree) (b : List ℕ) (c : ℕ) (s skip rest : List ℕ) → c ∷ s ≡ skip ++ rest → Leads p Any (b ++ skip) rest → Leads p Any b (c ∷ s) ⊎ Later p (b ++ c ∷ []) s
 later_at p b c s [] rest e h =
-    let P : List ℕ → Type 0 = λ d. Leads p Any d rest in
-    let Q : List ℕ → Type 0 = λ r. Leads p Any b r in
-    inl (subst Q (sym e) (subst P (append_nil b) h))
+    inl (rw (append_nil b, ← e) at h)
 later_at p b c s (d ∷ skip) rest e h =
     let same : d ≡ c = cc in
     let left : s ≡ skip ++ rest = cc in
-    let P : ℕ → Type 0 = λ d. Leads p Any (b ++ d ∷ skip) rest in
-    let Q : List ℕ → Type 0 = λ d. Leads p Any d rest in
-    inr (skip, rest, left, subst Q (sym (append_assoc b (c ∷ []) skip)) (subst P same h))
+    inr (skip, rest, left, (rw (same, ← append_assoc b (c ∷ []) skip) at h))
 
 later : (p : Tree) (b : List ℕ) (c : ℕ) (s : List ℕ) → Later p b (c ∷ s) → Leads p Any b (c ∷ s) ⊎ Later p (b ++ c ∷ []) s
 later p b c s h = later_at p b c s h.0 h.1 h.2 h.3
 
 now : (p : Tree) (b s : List ℕ) → Leads p Any b s → Later p b s
-now p b s h = let P : List ℕ → Type 0 = λ d. Leads p Any d s in ([], s, refl, subst P (sym (append_nil b)) h)
+now p b s h = ([], s, refl, (rw (← append_nil b) at h))
 
 from_later : (p : Tree) (b : List ℕ) (c : ℕ) (s : List ℕ) → Later p (b ++ c ∷ []) s → Later p b (c ∷ s)
 from_later p b c s h =
-    let P : List ℕ → Type 0 = λ d. Leads p Any d h.1 in
-    (c ∷ h.0, h.1, ap (λ r. c ∷ r) h.2, subst P (append_assoc b (c ∷ []) h.0) h.3)
+    (c ∷ h.0, h.1, ap (λ r. c ∷ r) h.2, (rw (append_assoc b (c ∷ []) h.0) at h.3))
 
 later_end_at : (p : Tree) (b skip rest : List ℕ) → [] ≡ skip ++ rest → Leads p Any (b ++ skip) rest → Leads p Any b []
 later_end_at p b [] rest e h = rw (e, ← append_nil b) h
@@ -138,8 +133,7 @@ found_of (c ∷ s) b t false kept h =
     let known = case_of kept (λ no. (let k : Kept (is_nil b) t = absurd (cc) in k)) (λ k. k) in
     let more = shifted (is_nil b) c t true in
     let p = passes (is_nil b) t true in
-    let P : Bool → Type 0 = λ f. finds (record { marks = more; is_first = f; found = p }) s ≡ true in
-    case_of (found_of s (b ++ c ∷ []) more p (inr (kept_on b c t true)) (subst P (sym (not_nil b c)) h))
+    case_of (found_of s (b ++ c ∷ []) more p (inr (kept_on b c t true)) (rw (← not_nil b c) at h))
     (λ e. goes_will b (c ∷ s) t (from_read b c s t known true Any (inr (e, tt))))
     (λ h. case_of h
     (λ r. goes_will b (c ∷ s) t (from_read b c s t known true Any (inl r)))

@@ -1,5 +1,5 @@
 -- Atoms and terms of regular expressions.
-use Rattle.std.proofs.Common.{◌≡◌, ℕ, Bool, false, List, [], ◌∷◌, ◌++◌, length, arith, ap, ◌∙◌, Option, Some, None, Result, Ok, Err, refl, subst}
+use Rattle.std.proofs.Common.{◌≡◌, ℕ, Bool, false, List, [], ◌∷◌, ◌++◌, length, arith, ap, ◌∙◌, Option, Some, None, Result, Ok, Err, refl}
 use Rattle.std.specs.Prelude.{IfOk, IfSome}
 use Rattle.tmpl_formats.specs.Pattern as tree
 use Rattle.tmpl_formats.specs.Pattern.{Tree}
@@ -48,6 +48,4 @@ nothing_in text _ no_piece = nothing
 
 -- a row of no part
 pub row-none : (text rest next : List ℕ) (nodes : List Node) → length nodes ≡ 0 → next ≡ rest → HasRow false text (trees_of nodes) rest → HasSequence text tree.Empty next
-row-none text rest next nodes is same row =
-    let P : List Node → Type 0 = λ ns. HasRow false text (trees_of ns) rest in
-    rw same (nothing_in text rest (subst P (none_there nodes is) row))
+row-none text rest next nodes is same row = rw same (nothing_in text rest (rw (none_there nodes is) at row))

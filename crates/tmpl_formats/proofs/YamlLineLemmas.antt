@@ -1,5 +1,5 @@
 -- What is left of a text at each control of the machine for YAML.
-use Rattle.std.proofs.Common.{◌≡◌, ◌≤◌, ◌<◌, ℕ, zero, suc, ◌+◌, ◌-◌, ◌*◌, ◌^◌, ◌==◌, Bool, true, false, cond, ◌&&◌, ◌||◌, List, [], ◌∷◌, ◌++◌, length, take, drop, Option, Some, None, slice_get, bytes_eq, arith, refl, sym, ◌∙◌, ap, subst, add-one, nat_lt, nat_le, append_assoc, take-append-drop, take_all, le_refl}
+use Rattle.std.proofs.Common.{◌≡◌, ◌≤◌, ◌<◌, ℕ, zero, suc, ◌+◌, ◌-◌, ◌*◌, ◌^◌, ◌==◌, Bool, true, false, cond, ◌&&◌, ◌||◌, List, [], ◌∷◌, ◌++◌, length, take, drop, Option, Some, None, slice_get, bytes_eq, arith, refl, sym, ◌∙◌, ap, add-one, nat_lt, nat_le, append_assoc, take-append-drop, take_all, le_refl}
 use Rattle.std.proofs.lemmas.Grind.{common_steps}
 use Rattle.std.proofs.lemmas.Slice.Eq.{bytes_eq-Decides}
 use Rattle.std.specs.List.{list_all}
@@ -543,8 +543,7 @@ more_plain_goes p c b s n text h =
 
 whole_scalar : (f : Bool) (s more : List ℕ) → is_scalar f s (length s) ≡ true → HasScalar f (s ++ more) more
 whole_scalar f s more h =
-    let P : List ℕ → Type 0 = λ t. is_plain f t ≡ true in
-    plain s more (subst P (take_all (length s) s (le_refl (length s))) (and_left (is_plain f (take (length s) s)) (list_all (λ b. b == 32) (drop (length s) s)) h))
+    plain s more (rw (take_all (length s) s (le_refl (length s))) at (and_left (is_plain f (take (length s) s)) (list_all (λ b. b == 32) (drop (length s) s)) h))
 
 whole_goes : (x : Sign) (p : Place) (c b : ℕ) (s : List ℕ) (n : Nest) (text : List ℕ) → sign_of b ≡ x → Went (whole_value (spot_at p c) s x) s n text
     → Rest p c (Left n) (s ++ b ∷ text)
@@ -567,10 +566,9 @@ plain_goes x p c b s n text i h = either_plain (is_flow p && ends_entry x) x p c
 named_scalar : (f : Bool) (end : ℕ) (s more : List ℕ) → is_name f s end ≡ true → HasScalar f (s ++ more) (58 ∷ more)
 named_scalar f end s more h =
     let is : drop end s ≡ 58 ∷ [] = (bytes_eq-Decides (drop end s) (58 ∷ [])).0 (and_right (is_plain f (take end s)) (bytes_eq (drop end s) (58 ∷ [])) h) in
-    let P : List ℕ → Type 0 = λ t. HasScalar f t (58 ∷ more) in
     let same : take end s ++ 58 ∷ more ≡ s ++ more =
     sym (ap (λ d. take end s ++ (d ++ more)) is) ∙ (sym (append_assoc (take end s) (drop end s) more) ∙ ap (λ t. t ++ more) (take-append-drop end s)) in
-    subst P same (plain (take end s) (58 ∷ more) (and_left (is_plain f (take end s)) (bytes_eq (drop end s) (58 ∷ [])) h))
+    rw (← same) (plain (take end s) (58 ∷ more) (and_left (is_plain f (take end s)) (bytes_eq (drop end s) (58 ∷ [])) h))
 
 named_goes : (x : Sign) (p : Place) (c end b : ℕ) (s : List ℕ) (n : Nest) (text : List ℕ) → sign_of b ≡ x → Went (named_key (spot_at p c) s end x) s n text
     → Rest p c (Left n) (s ++ b ∷ text)
@@ -605,10 +603,8 @@ spaced_scalar : (p : Place) (c end : ℕ) (s more : List ℕ) (n : Nest) → tak
     → AnyRest (after_value p) (AfterScalar c n) more → Rest p c (Left n) (s ++ more)
 spaced_scalar p c end s more n v e h =
     let q = three_of (is_plain (is_flow p) (take end s)) (passes (λ b. b == 32) (slice_get (drop end s) 0)) (list_all (λ b. b == 32) (drop end s)) e in
-    let P : List ℕ → Type 0 = λ t. Rest p c (Left n) t in
     let same : take end s ++ (drop end s ++ more) ≡ s ++ more = sym (append_assoc (take end s) (drop end s) more) ∙ ap (λ t. t ++ more) (take-append-drop end s) in
-    subst P same
-    (a_value p c n (take end s ++ (drop end s ++ more)) (drop end s ++ more) v (plain (take end s) (drop end s ++ more) q.0)
+    rw (← same) (a_value p c n (take end s ++ (drop end s ++ more)) (drop end s ++ more) v (plain (take end s) (drop end s ++ more) q.0)
     (may_come p (drop end s ++ more) (gap_of (drop end s) more q.1))
     (an_end p c n (drop end s ++ more) (all_spaces (after_value p) (AfterScalar c n) (drop end s) more q.2 h)))
 

@@ -7,7 +7,7 @@ pub returns-then-takes : goal.returns-then-takes
 returns-then-takes c = rw (c.if-takes.ensures.taken refl) hyphen
 
 pub returns-then-takes-2 : goal.returns-then-takes-2
-returns-then-takes-2 c = rw ((sym (c.if-takes.ensures.kept refl) ∙ c.if-takes-2.ensures.taken refl)) backspace
+returns-then-takes-2 c = rw (sym (c.if-takes.ensures.kept refl) ∙ c.if-takes-2.ensures.taken refl) backspace
 
 pub returns-else-takes-2 : goal.returns-else-takes-2
 returns-else-takes-2 c =

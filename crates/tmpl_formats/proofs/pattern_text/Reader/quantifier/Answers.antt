@@ -1,5 +1,5 @@
-use Rattle.std.proofs.Common.{ℕ, List, refl, subst}
-use Rattle.tmpl_formats.specs.PatternText.{HasTimes, no_quantifier, greedy, lazy}
+use Rattle.std.proofs.Common.{refl}
+use Rattle.tmpl_formats.specs.PatternText.{no_quantifier, greedy, lazy}
 use Rattle.tmpl_formats.proofs.pattern_text.Reader.quantifier.Goals as goal
 
 pub returns-then-not-begins_times : goal.returns-then-not-begins_times
@@ -7,8 +7,7 @@ returns-then-not-begins_times c = no_quantifier
 
 pub returns-then-takes : goal.returns-then-takes
 returns-then-takes c =
-    let P : List ℕ → Type 0 = λ t. HasTimes c.args.self.now.rest.now c.in_ok-times.times.least c.in_ok-times.times.most t in
-    lazy (subst P (c.if-takes.ensures.taken refl) c.in_ok-times.ensures)
+    lazy (rw (c.if-takes.ensures.taken refl) at c.in_ok-times.ensures)
 
 pub returns-else-takes : goal.returns-else-takes
 returns-else-takes c = rw (c.if-takes.ensures.kept refl) (greedy c.in_ok-times.ensures)
