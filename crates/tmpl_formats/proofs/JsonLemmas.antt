@@ -283,13 +283,9 @@ comma_object s text (members_then m b) = object_goes no_space m b
 end_goes : (x : Sign) (s : List Open) (b : ℕ) (text : List ℕ) → sign_of b ≡ x → Accepts s (at_end (head_of s) x) text → Known text → AfterValue s (b ∷ text)
 end_goes sign.White s b text e h known = end_space s b text (whites b (ap white_sign e)) (on at.End s text known h)
 end_goes sign.Space s b text e h known = end_space s b text (whites b (ap white_sign e)) (on at.End s text known h)
-end_goes sign.Comma [] b text e h known = cc
 end_goes sign.Comma (open_.Array ∷ s) b text e h known = rw (byte_of sign.Comma b e refl) (comma_array s text (items_of s text (on at.Value (open_.Array ∷ s) text known h)))
 end_goes sign.Comma (open_.Object ∷ s) b text e h known = rw (byte_of sign.Comma b e refl) (comma_object s text (on at.Key (open_.Object ∷ s) text known h))
-end_goes sign.CloseArray [] b text e h known = cc
 end_goes sign.CloseArray (open_.Array ∷ s) b text e h known = rw (byte_of sign.CloseArray b e refl) (array_ends no_space (popped at.End open_.Array s text known h))
-end_goes sign.CloseArray (open_.Object ∷ s) b text e h known = cc
-end_goes sign.CloseObject [] b text e h known = cc
 end_goes sign.CloseObject (open_.Array ∷ s) b text e h known = cc
 end_goes sign.CloseObject (open_.Object ∷ s) b text e h known = rw (byte_of sign.CloseObject b e refl) (object_ends no_space (popped at.End open_.Object s text known h))
 end_goes _ s b text e h known = cc
@@ -395,9 +391,6 @@ from_of m n = grind (arith, common_steps)
 low_of : (m : ℕ) → (nat_le 12 m && nat_lt m 16) ≡ true → (12 ≤ m) × (m < 16)
 low_of m = grind (arith, common_steps)
 
-hex_more : (Q : List ℕ → Type 0) (count b : ℕ) (text : List ℕ) → hex_value b < 16 → Then (HasHex count) Q text → Then (HasHex (count + 1)) Q (b ∷ text)
-hex_more Q count b text v (both d q) = both (a_digit v d) q
-
 hex_last : (Q : List ℕ → Type 0) (b : ℕ) (text : List ℕ) → hex_value b < 16 → Q text → Then (HasHex 1) Q (b ∷ text)
 hex_last Q b text v q = both (a_digit v no_digit) q
 
@@ -450,10 +443,10 @@ escape_goes : (x : Escape) (r : Role) (s : List Open) (b : ℕ) (text : List ℕ
 escape_goes escape.Backslash r s b text h known = backslash_goes (b == 117) r s b text refl h known
 escape_goes escape.Unit r s b text h known = unit_goes (hex_value b == 13) r s b text refl h known
 escape_goes escape.Surrogate r s b text h known = λ a d. surrogate_goes (nat_lt (hex_value b) 8) r s a b text d refl h known
-escape_goes escape.Hex3 r s b text h known = let found = hex_goes (at.Escape r escape.Hex2) s b text h known in hex_more (TextThen r s) 2 b text found.0 found.1
-escape_goes escape.Hex2 r s b text h known = let found = hex_goes (at.Escape r escape.Hex1) s b text h known in hex_more (TextThen r s) 1 b text found.0 found.1
+escape_goes escape.Hex3 r s b text h known = let found = hex_goes (at.Escape r escape.Hex2) s b text h known in then_map found.1 (λ rest d. a_digit found.0 d)
+escape_goes escape.Hex2 r s b text h known = let found = hex_goes (at.Escape r escape.Hex1) s b text h known in then_map found.1 (λ rest d. a_digit found.0 d)
 escape_goes escape.Hex1 r s b text h known = let found = hex_goes (at.Text r) s b text h known in hex_last (TextThen r s) b text found.0 found.1
-escape_goes escape.High2 r s b text h known = let found = hex_goes (at.Escape r escape.High1) s b text h known in hex_more (PairThen r s) 1 b text found.0 found.1
+escape_goes escape.High2 r s b text h known = let found = hex_goes (at.Escape r escape.High1) s b text h known in then_map found.1 (λ rest d. a_digit found.0 d)
 escape_goes escape.High1 r s b text h known = let found = hex_goes (at.Escape r escape.Pair) s b text h known in hex_last (PairThen r s) b text found.0 found.1
 escape_goes escape.Pair r s b text h known = let found = given_goes (at.Escape r escape.PairUnit) s b 92 text h known in rw (← found.0) found.1
 escape_goes escape.PairUnit r s b text h known = let found = given_goes (at.Escape r escape.Low) s b 117 text h known in rw (← found.0) found.1
@@ -488,13 +481,6 @@ literal_goes literal.L s b text h known = last_letter s b 108 text h known
 
 -- ---- numbers
 
-exponent_of : (s : List Open) (b : ℕ) (text : List ℕ) → (b ≡ 101) ⊎ (b ≡ 69) → Then HasSome (AfterValue s) text → Then HasExponent (AfterValue s) (b ∷ text)
-exponent_of s b text e (both m q) = both (unsigned e m) q
-
-exponent_signed : (s : List Open) (b c : ℕ) (text : List ℕ) → (b ≡ 101) ⊎ (b ≡ 69) → (c ≡ 43) ⊎ (c ≡ 45) → Then HasSome (AfterValue s) text
-    → Then HasExponent (AfterValue s) (b ∷ c ∷ text)
-exponent_signed s b c text e f (both m q) = both (signed e f m) q
-
 fraction_of : (s : List Open) (text : List ℕ) → NumberThen num.Point s text → Then HasFraction (AfterValue s) (46 ∷ text)
 fraction_of s text (both m (both x q)) = both (fraction m x) q
 
@@ -527,14 +513,11 @@ whole_goes sign.Zero s b text e h known = more_digits sign.Zero (Then HasFractio
 whole_goes sign.Digit s b text e h known = more_digits sign.Digit (Then HasFraction (AfterValue s)) b text refl e (on (at.Number num.Whole) s text known h)
 whole_goes x s b text e h known = both no_more (zero_goes x s b text e h known)
 
-minus_zero : (s : List Open) (text : List ℕ) → NumberThen num.Zero s text → NumberThen num.Minus s (48 ∷ text)
-minus_zero s text (both f q) = both (zero f) q
-
 minus_whole : (s : List Open) (b : ℕ) (text : List ℕ) → is_ascii_digit b ≡ true → b ≢ 48 → NumberThen num.Whole s text → NumberThen num.Minus s (b ∷ text)
 minus_whole s b text d n (both m (both f q)) = both (whole d n m f) q
 
 minus_goes : (x : Sign) (s : List Open) (b : ℕ) (text : List ℕ) → sign_of b ≡ x → Accepts s (at_number num.Minus (head_of s) x) text → Known text → NumberThen num.Minus s (b ∷ text)
-minus_goes sign.Zero s b text e h known = rw (byte_of sign.Zero b e refl) (minus_zero s text (on (at.Number num.Zero) s text known h))
+minus_goes sign.Zero s b text e h known = rw (byte_of sign.Zero b e refl) (then_map (on (at.Number num.Zero) s text known h) (λ rest f. zero f))
 minus_goes sign.Digit s b text e h known =
     minus_whole s b text (digits b (ap digit_sign e)) (nonzeros b (ap nonzero_sign e)) (on (at.Number num.Whole) s text known h)
 minus_goes _ s b text e h known = cc
@@ -546,9 +529,9 @@ first_goes n Q sign.Digit s b text e f h known = some_digits sign.Digit Q b text
 first_goes n Q _ s b text e f h known = cc
 
 exponent_goes : (x : Sign) (s : List Open) (b : ℕ) (text : List ℕ) → sign_of b ≡ x → Accepts s (at_number num.Exponent (head_of s) x) text → Known text → NumberThen num.Exponent s (b ∷ text)
-exponent_goes sign.Plus s b text e h known = λ a i. exponent_signed s a b text i (inl (byte_of sign.Plus b e refl)) (on (at.Number num.Sign) s text known h)
-exponent_goes sign.Minus s b text e h known = λ a i. exponent_signed s a b text i (inr (byte_of sign.Minus b e refl)) (on (at.Number num.Sign) s text known h)
-exponent_goes x s b text e h known = λ a i. exponent_of s a (b ∷ text) i (first_goes num.Power (AfterValue s) x s b text e (λ q. q) h known)
+exponent_goes sign.Plus s b text e h known = λ a i. then_map (on (at.Number num.Sign) s text known h) (λ rest m. signed i (inl (byte_of sign.Plus b e refl)) m)
+exponent_goes sign.Minus s b text e h known = λ a i. then_map (on (at.Number num.Sign) s text known h) (λ rest m. signed i (inr (byte_of sign.Minus b e refl)) m)
+exponent_goes x s b text e h known = λ a i. then_map (first_goes num.Power (AfterValue s) x s b text e (λ q. q) h known) (λ rest m. unsigned i m)
 
 number_goes : (n : Number) (s : List Open) (b : ℕ) (text : List ℕ) → Accepts s (at_number n (head_of s) (sign_of b)) text → Known text → NumberThen n s (b ∷ text)
 number_goes num.Minus s b text h known = minus_goes (sign_of b) s b text refl h known

@@ -156,27 +156,16 @@ body_map : (depth : ℕ) (text more : List ℕ) → ((rest : List ℕ) → HasBo
 body_map _ text more f (whole p) = whole (f [] p)
 body_map _ text more f (within p q) = within (f _ p) q
 
--- a directive, from its first word
-directive : (depth : ℕ) (text tail : List ℕ) → HasWord text tail → TailThen depth tail → BodyThen depth text
-directive depth text tail w (both t (semicolon {more} q)) = body_map depth more text (λ rest p. simple w t p) q
-directive depth text tail w (both t (brace (within p q))) = body_map depth _ text (λ rest r. block w t p r) q
-
--- a word after a gap
-another : (depth : ℕ) (text tail : List ℕ) → HasWord text tail → TailThen depth tail → MoreThen depth text
-another depth text tail w (both t q) = both (word w t) q
-
 -- what has a word, and what follows it, before a directive and after a gap
 abbrev HasWordThen : ℕ → List ℕ → Type 0
 HasWordThen depth text = Then HasWord (TailThen depth) text
 
 to_body : (depth : ℕ) (text : List ℕ) → HasWordThen depth text → BodyThen depth text
-to_body depth text (both w t) = directive depth text _ w t
+to_body depth text (both w (both t (semicolon {more} q))) = body_map depth more text (λ rest p. simple w t p) q
+to_body depth text (both w (both t (brace (within p q)))) = body_map depth _ text (λ rest r. block w t p r) q
 
 to_more : (depth : ℕ) (text : List ℕ) → HasWordThen depth text → MoreThen depth text
-to_more depth text (both w t) = another depth text _ w t
-
-bare_word : (depth b : ℕ) (text : List ℕ) → is_first b ≡ true → InnerThen depth text → HasWordThen depth (b ∷ text)
-bare_word depth b text f (both i t) = both (bare f i) t
+to_more depth text (both w (both t q)) = both (word w t) q
 
 escaped_word : (depth : ℕ) (text : List ℕ) → EscapedThen (InnerThen depth) text → HasWordThen depth (92 ∷ text)
 escaped_word depth _ (escaped_then s (both i t)) = both (bare_escaped s i) t
@@ -200,9 +189,6 @@ inner_escaped depth _ (escaped_then s (both n t)) = both (escaped s n) t
 
 inner_dollar : (depth : ℕ) (text : List ℕ) → Then HasBraces (InnerThen depth) text → InnerThen depth (36 ∷ text)
 inner_dollar depth text (both d (both n t)) = both (dollar d n) t
-
-inner_ends : (depth : ℕ) (text : List ℕ) → TailThen depth text → InnerThen depth text
-inner_ends depth text t = both no_more t
 
 quoted_escaped : (quote depth : ℕ) (text : List ℕ) → EscapedThen (QuotedThen quote depth) text → QuotedThen quote depth (92 ∷ text)
 quoted_escaped quote depth _ (escaped_then s (both q t)) = both (inside_escaped s q) t
@@ -245,8 +231,8 @@ word_goes sign.Double depth b text e h known = rw (byte_of sign.Double b e refl)
 word_goes sign.Single depth b text e h known = rw (byte_of sign.Single b e refl) (quoted_word depth 39 text (inr refl) (on at.Single depth text known h))
 word_goes sign.Backslash depth b text e h known = rw (byte_of sign.Backslash b e refl) (escaped_word depth text (on at.Escape depth text known h))
 word_goes sign.Dollar depth b text e h known = rw (byte_of sign.Dollar b e refl) (dollar_word depth text (on at.Dollar depth text known h))
-word_goes sign.Parenthesis depth b text e h known = bare_word depth b text (firsts b (ap first_sign e)) (on at.Word depth text known h)
-word_goes sign.Other depth b text e h known = bare_word depth b text (firsts b (ap first_sign e)) (on at.Word depth text known h)
+word_goes sign.Parenthesis depth b text e h known = then_map (on at.Word depth text known h) (λ rest i. bare (firsts b (ap first_sign e)) i)
+word_goes sign.Other depth b text e h known = then_map (on at.Word depth text known h) (λ rest i. bare (firsts b (ap first_sign e)) i)
 word_goes _ depth b text e h known = cc
 
 start_space : (x : Sign) (depth b : ℕ) (text : List ℕ) → sign_of b ≡ x → gap_sign x ≡ true → BodyThen depth text → BodyThen depth (b ∷ text)
@@ -283,10 +269,10 @@ gap_goes x depth b text e h known = to_more depth (b ∷ text) (word_goes x dept
 
 inner_goes : (x : Sign) (depth b : ℕ) (text : List ℕ) → sign_of b ≡ x → Accepts (in_word depth x) text → Known text → InnerThen depth (b ∷ text)
 inner_goes sign.Null depth b text e h known = cc
-inner_goes sign.Newline depth b text e h known = inner_ends depth (b ∷ text) (tail_goes sign.Newline depth b text e h known)
-inner_goes sign.Gap depth b text e h known = inner_ends depth (b ∷ text) (tail_goes sign.Gap depth b text e h known)
-inner_goes sign.Semicolon depth b text e h known = inner_ends depth (b ∷ text) (tail_goes sign.Semicolon depth b text e h known)
-inner_goes sign.Open depth b text e h known = inner_ends depth (b ∷ text) (tail_goes sign.Open depth b text e h known)
+inner_goes sign.Newline depth b text e h known = both no_more (tail_goes sign.Newline depth b text e h known)
+inner_goes sign.Gap depth b text e h known = both no_more (tail_goes sign.Gap depth b text e h known)
+inner_goes sign.Semicolon depth b text e h known = both no_more (tail_goes sign.Semicolon depth b text e h known)
+inner_goes sign.Open depth b text e h known = both no_more (tail_goes sign.Open depth b text e h known)
 inner_goes sign.Backslash depth b text e h known = rw (byte_of sign.Backslash b e refl) (inner_escaped depth text (on at.Escape depth text known h))
 inner_goes sign.Dollar depth b text e h known = rw (byte_of sign.Dollar b e refl) (inner_dollar depth text (on at.Dollar depth text known h))
 inner_goes _ depth b text e h known = then_map (on at.Word depth text known h) (λ rest m. inner (inners b (ap inner_sign e)) m)

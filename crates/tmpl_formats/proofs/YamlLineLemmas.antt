@@ -220,15 +220,15 @@ abbrev pub Went : Option Move → List ℕ → Nest → List ℕ → Type 0
 Went None s n text = ⊥
 Went (Some m) s n text = Moved m.control (written m.write s) (happened m.event n) text
 
-data Reaches (q : Control) (s : List ℕ) (L : List Token → Type 0) (text : List ℕ) : Type 0 where
-  reaches : (bs : List Bracket) → Goes q s L bs text → Reaches q s L text
+abbrev Reaches : Control → List ℕ → (List Token → Type 0) → List ℕ → Type 0
+Reaches q s L text = (bs : List Bracket) × Goes q s L bs text
 
 moved_reaches : (q : Control) (s : List ℕ) (r : Option Nest) (text : List ℕ) → Moved q s r text → Reaches q s (Fits r) text
 moved_reaches q s None text h = absurd h
-moved_reaches q s (Some n) text h = reaches n.brackets h
+moved_reaches q s (Some n) text h = (n.brackets, h)
 
 reaches_map : (q : Control) (s : List ℕ) (L M : List Token → Type 0) (text : List ℕ) → ((ts : List Token) → L ts → M ts) → Reaches q s L text → Reaches q s M text
-reaches_map q s L M text f (reaches bs h) = reaches bs (goes_map q s L M bs text f h)
+reaches_map q s L M text f (bs, h) = (bs, goes_map q s L M bs text f h)
 
 -- what is left before the tokens of an event
 abbrev Before : Event → Nest → List Token → Type 0
@@ -237,11 +237,8 @@ Before e n ts = Left n (tokens_of e ++ ts)
 reach : (q : Control) (s : List ℕ) (e : Event) (n : Nest) (text : List ℕ) → Moved q s (happened e n) text → Reaches q s (Before e n) text
 reach q s e n text h = reaches_map q s (Fits (happened e n)) (Before e n) text (λ ts p. happened_fits e n ts p) (moved_reaches q s (happened e n) text h)
 
-rest_reached : (p : Place) (c : ℕ) (s : List ℕ) (L : List Token → Type 0) (text : List ℕ) → Reaches (at.At (spot_at p c)) s L text → Rest p c L text
-rest_reached p c s L text (reaches bs h) = h
-
 at_reach : (p : Place) (c : ℕ) (s : List ℕ) (e : Event) (n : Nest) (text : List ℕ) → Moved (at.At (spot_at p c)) s (happened e n) text → Rest p c (Before e n) text
-at_reach p c s e n text h = rest_reached p c s (Before e n) text (reach (at.At (spot_at p c)) s e n text h)
+at_reach p c s e n text h = (reach (at.At (spot_at p c)) s e n text h).1
 
 -- ---- a space, and the end of a line
 
@@ -287,9 +284,6 @@ begin_reach : (p : Place) (c : ℕ) (q : Control) (s : List ℕ) (n : Nest) (tex
 begin_reach place.Flow c q s n text h = reach q s event.Enter n text h
 begin_reach _ c q s n text h = reach q s (event.Begin c) n text h
 
-plain_reached : (p : Place) (c : ℕ) (s : List ℕ) (L : List Token → Type 0) (text : List ℕ) → Reaches (at.Plain (spot_at p c)) s L text → Rest p c L (s ++ text)
-plain_reached p c s L text (reaches bs h) = h
-
 line_lead : (t : Bool) (c : ℕ) (q : Control) (s : List ℕ) (n : Nest) (text : List ℕ) → Moved q s (happened (cond t event.Nothing (event.Dash c)) n) text → Reaches q s (Left n) text
 line_lead true c q s n text h = reach q s event.Nothing n text h
 line_lead false c q s n text h = reach q s (event.Dash c) n text h
@@ -299,18 +293,15 @@ lead_reach place.Line c q s n text h = line_lead (c == 0) c q s n text h
 lead_reach place.Flow c q s n text h = reach q s event.Enter n text h
 lead_reach _ c q s n text h = reach q s (event.Dash c) n text h
 
-dash_reached : (p : Place) (c : ℕ) (s : List ℕ) (L : List Token → Type 0) (text : List ℕ) → Reaches (at.Dash (spot_at p c)) s L text → Rest p c L (45 ∷ text)
-dash_reached p c s L text (reaches bs h) = h
-
 double_reached : (p : Place) (c : ℕ) (s : List ℕ) (L : List Token → Type 0) (text : List ℕ) → Reaches (at.Double (spot_at p c)) s L text → Rest p c L (34 ∷ text)
-double_reached p c s L text (reaches bs h) = h (34 ∷ text) (λ rest d. double d)
+double_reached p c s L text (bs, h) = h (34 ∷ text) (λ rest d. double d)
 
 single_reached : (p : Place) (c : ℕ) (s : List ℕ) (L : List Token → Type 0) (text : List ℕ) → Reaches (at.Single (spot_at p c)) s L text → Rest p c L (39 ∷ text)
-single_reached p c s L text (reaches bs h) = h (39 ∷ text) (λ rest d. single d)
+single_reached p c s L text (bs, h) = h (39 ∷ text) (λ rest d. single d)
 
 header_reached : (p : Place) (c parent b : ℕ) (s : List ℕ) (n : Nest) (text : List ℕ) → parent_of p ≡ Some parent → (b == 124 || b == 62) ≡ true
     → Reaches (at.Header parent) s (Before (event.One (token.Scalar c)) n) text → Rest p c (Left n) (b ∷ text)
-header_reached p c parent b s n text e m (reaches bs (both h (both l (rest_of t left)))) = rest_of (block e m h l t) left
+header_reached p c parent b s n text e m (bs, both h (both l (rest_of t left))) = rest_of (block e m h l t) left
 
 mark_goes : (r : Option ℕ) (p : Place) (c b : ℕ) (s : List ℕ) (n : Nest) (text : List ℕ) → parent_of p ≡ r → (b == 124 || b == 62) ≡ true → Went (option_and_then (λ parent. to (at.Header parent) (event.One (token.Scalar c))) r) s n text
     → Rest p c (Left n) (b ∷ text)
@@ -323,11 +314,11 @@ opened_rest p c k n text v (rest_of h l) = rest_of (open_ k v h) l
 
 node_goes : (x : Sign) (p : Place) (c b : ℕ) (s : List ℕ) (n : Nest) (text : List ℕ) → sign_of b ≡ x → takes_values p ≡ true → Went (at_node (spot_at p c) x b) s n text
     → Rest p c (Left n) (b ∷ text)
-node_goes sign.Dash p c b s n text i v h = rw (byte_of sign.Dash b i refl) (dash_reached p c s (Left n) text (lead_reach p c (at.Dash (spot_at p c)) s n text h))
+node_goes sign.Dash p c b s n text i v h = rw (byte_of sign.Dash b i refl) ((lead_reach p c (at.Dash (spot_at p c)) s n text h).1)
 node_goes sign.Start p c b s n text i v h =
-    plain_reached p c (b ∷ []) (Left n) text (begin_reach p c (at.Plain (spot_at p c)) (b ∷ []) n text h)
+    (begin_reach p c (at.Plain (spot_at p c)) (b ∷ []) n text h).1
 node_goes sign.Lead p c b s n text i v h =
-    plain_reached p c (b ∷ []) (Left n) text (begin_reach p c (at.Plain (spot_at p c)) (b ∷ []) n text h)
+    (begin_reach p c (at.Plain (spot_at p c)) (b ∷ []) n text h).1
 node_goes sign.Double p c b s n text i v h = rw (byte_of sign.Double b i refl) (double_reached p c s (Left n) text (begin_reach p c (at.Double (spot_at p c)) s n text h))
 node_goes sign.Single p c b s n text i v h = rw (byte_of sign.Single b i refl) (single_reached p c s (Left n) text (begin_reach p c (at.Single (spot_at p c)) s n text h))
 node_goes sign.Mark p c b s n text i v h = mark_goes (parent_of p) p c b s n text refl (marks b (ap mark_sign i)) h
@@ -347,7 +338,7 @@ closed_rest (own ∷ bs) c k L M text f (rest_of {ts} h l) = rest_of (close k h)
 
 close_reached : (c : ℕ) (k : Bracket) (s : List ℕ) (L M : List Token → Type 0) (text : List ℕ) → ((ts : List Token) → L ts → M (token.Close k ∷ ts)) → Reaches at.Closed s L text
     → Rest place.Flow c M (closing k ∷ text)
-close_reached c k s L M text f (reaches bs h) = closed_rest bs c k L M text f h
+close_reached c k s L M text f (bs, h) = closed_rest bs c k L M text f h
 
 flow_goes : (x : Sign) (c b : ℕ) (s : List ℕ) (n : Nest) (text : List ℕ) → sign_of b ≡ x → Went (at_flow c x b) s n text → Rest place.Flow c (Left n) (b ∷ text)
 flow_goes sign.Space c b s n text i h = (gap_goes sign.Space place.Flow c event.Nothing b s n text i h).1
@@ -395,7 +386,7 @@ close_ending (own ∷ bs) c k n text (rest_of h l) = any_of (λ j. close k h) l
 
 close_ending_reached : (c : ℕ) (k : Bracket) (s : List ℕ) (n : Nest) (text : List ℕ) → Reaches at.Closed s (Before (event.Two (token.Scalar c) (token.Close k)) n) text
     → AnyRest place.Flow (AfterScalar c n) (closing k ∷ text)
-close_ending_reached c k s n text (reaches bs h) = close_ending bs c k n text h
+close_ending_reached c k s n text (bs, h) = close_ending bs c k n text h
 
 flow_ending : (x : Sign) (c b : ℕ) (s : List ℕ) (n : Nest) (text : List ℕ) → sign_of b ≡ x → is_ending x ≡ true → Went (after_flow_scalar (token.Scalar c) x) s n text
     → AnyRest place.Flow (AfterScalar c n) (b ∷ text)
@@ -476,7 +467,7 @@ margin_of _ c L text e h = cc
 
 dashed_goes : (p : Place) (c b : ℕ) (s : List ℕ) (n : Nest) (text : List ℕ) → Went (move_to (at.Plain (spot_at p c)) (writes.Dash b) (begin p c)) s n text
     → Rest p c (Left n) (45 ∷ b ∷ text)
-dashed_goes p c b s n text h = plain_reached p c (45 ∷ b ∷ []) (Left n) text (begin_reach p c (at.Plain (spot_at p c)) (45 ∷ b ∷ []) n text h)
+dashed_goes p c b s n text h = (begin_reach p c (at.Plain (spot_at p c)) (45 ∷ b ∷ []) n text h).1
 
 second_dash_goes : (t : Bool) (p : Place) (c b : ℕ) (s : List ℕ) (n : Nest) (text : List ℕ) → is_margin p c ≡ t → b ≡ 45
     → Went (cond t (to at.Dashes event.Nothing) (move_to (at.Plain (spot_at p c)) (writes.Dash b) (begin p c))) s n text → Rest p c (Left n) (45 ∷ b ∷ text)
@@ -505,7 +496,7 @@ marker_goes n (k ∷ bs) s text e h = absurd h
 dashes_goes : (x : Sign) (b : ℕ) (s : List ℕ) (n : Nest) (text : List ℕ) → sign_of b ≡ x → Went (after_dashes x b) s n text → Rest place.Line 0 (Left n) (45 ∷ 45 ∷ b ∷ text)
 dashes_goes sign.Dash b s n text i h = rw (byte_of sign.Dash b i refl) (marker_goes n n.brackets s text refl h)
 dashes_goes sign.Start b s n text i h =
-    plain_reached place.Line 0 (45 ∷ 45 ∷ b ∷ []) (Left n) text (reach (at.Plain (spot_at place.Line 0)) (45 ∷ 45 ∷ b ∷ []) (event.Begin 0) n text h)
+    (reach (at.Plain (spot_at place.Line 0)) (45 ∷ 45 ∷ b ∷ []) (event.Begin 0) n text h).1
 dashes_goes _ b s n text i h = absurd h
 
 -- ---- after brackets, and comments
@@ -631,15 +622,12 @@ no_flow_after _ e = refl
 comment_any : (p : Place) (L : List Token → Type 0) (text : List ℕ) → is_flow p ≡ false → Then HasLine (LineRest L) text → AnyRest p L (35 ∷ text)
 comment_any p L text f (both l (rest_of h left)) = any_of (λ j. comment f l h) left
 
-comment_reached : (s : List ℕ) (L : List Token → Type 0) (text : List ℕ) → Reaches at.Comment s L text → Then HasLine (LineRest L) text
-comment_reached s L text (reaches bs h) = h
-
 spaced_comment : (t u v : Bool) (p : Place) (c end b : ℕ) (s : List ℕ) (n : Nest) (text : List ℕ) → b ≡ 35 → is_spaced_scalar (is_flow p) s end ≡ t → takes_values p ≡ u
     → is_flow p ≡ v → Went (cond (t && u && not v) (to at.Comment (event.One (token.Scalar c))) None) s n text → Rest p c (Left n) (s ++ b ∷ text)
 spaced_comment true true false p c end b s n text i d v f h = rw i
     (spaced_scalar p c end s (35 ∷ text) n v d
     (comment_any (after_value p) (AfterScalar c n) text (no_flow_after p f)
-    (comment_reached s (AfterScalar c n) text (reach at.Comment s (event.One (token.Scalar c)) n text h))))
+    ((reach at.Comment s (event.One (token.Scalar c)) n text h).1)))
 spaced_comment _ _ _ p c end b s n text i d v f h = absurd h
 
 space_goes : (x : Sign) (p : Place) (c end b : ℕ) (s : List ℕ) (n : Nest) (text : List ℕ) → sign_of b ≡ x → Went (after_space (spot_at p c) s end x b) s n text

@@ -147,8 +147,7 @@ item_fits c e (lev.Sequence d ∷ ls) ts p = in_sequence_at (d == c) refl p
     push_at expects.Value p =
         let q = changes (nat_lt d c) (change.Push (lev.Sequence c)) (nest_at expects.Value (lev.Sequence d ∷ ls) []) ts p in
         sequence_node (lev.Sequence d ∷ ls) c ts (less d c q.0) q.1
-    push_at expects.Entry p = absurd p
-    push_at expects.Nothing p = absurd p
+    push_at _ p = absurd p
 
     in_sequence_at : (t : Bool) → (d == c) ≡ t
         → Changed (cond t (Some (change.Expect expects.Value)) (then_some (is_value e && nat_lt d c) (change.Push (lev.Sequence c)))) (nest_at e (lev.Sequence d ∷ ls) []) ts
@@ -170,8 +169,7 @@ key_fits c e (lev.Map d ∷ ls) ts p = in_map_at (d == c) refl p
   where
     push_at : (e : Expects) → Changed (then_some (is_value e && nat_lt d c) (change.Push (lev.Map c))) (nest_at e (lev.Map d ∷ ls) []) ts → LeftAt e (lev.Map d ∷ ls) [] (token.Key c ∷ ts)
     push_at expects.Value p = let q = changes (nat_lt d c) (change.Push (lev.Map c)) (nest_at expects.Value (lev.Map d ∷ ls) []) ts p in map_node (lev.Map d ∷ ls) c ts (less d c q.0) q.1
-    push_at expects.Entry p = absurd p
-    push_at expects.Nothing p = absurd p
+    push_at _ p = absurd p
 
     in_map_at : (t : Bool) → (d == c) ≡ t
         → Changed (cond t (Some (change.Expect expects.Value)) (then_some (is_value e && nat_lt d c) (change.Push (lev.Map c)))) (nest_at e (lev.Map d ∷ ls) []) ts
@@ -265,9 +263,8 @@ close_fits _ e ls _ ts p = absurd p
 comma_fits : (e : Expects) (ls : List Level) (bs : List Bracket) (ts : List Token) → Changed (change_of token.Comma e (head_of ls) (head_of bs)) (nest_at e ls bs) ts
     → LeftAt e ls bs (token.Comma ∷ ts)
 comma_fits e ls [] ts p = absurd p
-comma_fits expects.Value ls (k ∷ bs) ts p = absurd p
-comma_fits expects.Entry ls (k ∷ bs) ts p = absurd p
 comma_fits expects.Nothing ls (k ∷ bs) ts (both i b) = goes_on i b
+comma_fits _ ls (k ∷ bs) ts p = absurd p
 
 pub documents_of : (ts : List Token) → Waiting [] [] ts → IsDocuments ts
 documents_of ts (both n all_closed) = last_document n
