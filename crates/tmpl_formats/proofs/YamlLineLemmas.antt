@@ -11,7 +11,7 @@ use Rattle.tmpl_formats.specs.YamlScalar.{is_start, passes, may_follow, is_sign,
 use Rattle.tmpl_formats.specs.Hex.{hex_value}
 use Rattle.tmpl_formats.specs.computed.YamlScalar.{starts_well, is_scalar, is_spaced_scalar, is_name}
 use Rattle.tmpl_formats.specs.computed.Yaml.{written}
-use Rattle.tmpl_formats.specs.computed.YamlLine.{sign_of, spot_at, to, move_to, next_column, next_spot, at_gap, at_next_gap, begin, lead, at_node, at_flow, on_line, at_place, after_flow_scalar, after_scalar, key_if, is_margin, after_dash, after_dashes, after_closed, in_comment, more_plain, ends_entry, whole_value, after_plain, named_key, after_colon, spaced_value, after_space, after_digit, in_single, at_quoted_colon, after_quoted, after_quote, at_header_end, in_block, before_indent, in_indent, in_text, move_of}
+use Rattle.tmpl_formats.specs.computed.YamlLine.{sign_of, spot_at, to, move_to, next_column, next_spot, at_gap, at_next_gap, begin, lead, at_node, at_flow, on_line, at_place, after_flow_scalar, after_scalar, key_if, is_margin, after_dash, after_dashes, after_closed, in_comment, more_plain, ends_entry, value_if, after_plain, after_colon, after_space, after_digit, in_single, at_quoted_colon, after_quoted, after_quote, at_header_end, in_block, before_indent, in_indent, in_text, move_of}
 use Rattle.tmpl_formats.specs.computed.YamlNest.{Nest, nest_at, happened, is_in_brackets}
 use Rattle.tmpl_formats.specs.declared.yaml_nest.Bracket.{Bracket}
 use Rattle.tmpl_formats.specs.declared.yaml_nest.Bracket.TheVariants as bracket
@@ -536,13 +536,13 @@ whole_scalar : (f : Bool) (s more : List ℕ) → is_scalar f s (length s) ≡ t
 whole_scalar f s more h =
     plain s more (rw (take_all (length s) s (le_refl (length s))) at (and_left (is_plain f (take (length s) s)) (list_all (λ b. b == 32) (drop (length s) s)) h))
 
-whole_goes : (x : Sign) (p : Place) (c b : ℕ) (s : List ℕ) (n : Nest) (text : List ℕ) → sign_of b ≡ x → Went (whole_value (spot_at p c) s x) s n text
+whole_goes : (x : Sign) (p : Place) (c b : ℕ) (s : List ℕ) (n : Nest) (text : List ℕ) → sign_of b ≡ x → Went (value_if (is_scalar (is_flow p) s (length s)) (spot_at p c) x) s n text
     → Rest p c (Left n) (s ++ b ∷ text)
 whole_goes x p c b s n text i h =
     value_if_goes (is_scalar (is_flow p) s (length s)) (takes_values p) p x c b s n text (s ++ b ∷ text) i refl (λ e. whole_scalar (is_flow p) s (b ∷ text) e) h
 
 either_plain : (t : Bool) (x : Sign) (p : Place) (c b : ℕ) (s : List ℕ) (n : Nest) (text : List ℕ) → sign_of b ≡ x
-    → Went (cond t (whole_value (spot_at p c) s x) (more_plain (spot_at p c) b)) s n text → Rest p c (Left n) (s ++ b ∷ text)
+    → Went (cond t (value_if (is_scalar (is_flow p) s (length s)) (spot_at p c) x) (more_plain (spot_at p c) b)) s n text → Rest p c (Left n) (s ++ b ∷ text)
 either_plain true x p c b s n text i h = whole_goes x p c b s n text i h
 either_plain false x p c b s n text i h = more_plain_goes p c b s n text h
 
@@ -561,7 +561,7 @@ named_scalar f end s more h =
     sym (ap (λ d. take end s ++ (d ++ more)) is) ∙ (sym (append_assoc (take end s) (drop end s) more) ∙ ap (λ t. t ++ more) (take-append-drop end s)) in
     rw (← same) (plain (take end s) (58 ∷ more) (and_left (is_plain f (take end s)) (bytes_eq (drop end s) (58 ∷ [])) h))
 
-named_goes : (x : Sign) (p : Place) (c end b : ℕ) (s : List ℕ) (n : Nest) (text : List ℕ) → sign_of b ≡ x → Went (named_key (spot_at p c) s end x) s n text
+named_goes : (x : Sign) (p : Place) (c end b : ℕ) (s : List ℕ) (n : Nest) (text : List ℕ) → sign_of b ≡ x → Went (key_if (is_name (is_flow p) s end) (spot_at p c) x) s n text
     → Rest p c (Left n) (s ++ b ∷ text)
 named_goes x p c end b s n text i h =
     key_if_goes (is_name (is_flow p) s end) (takes_keys p) p x c b s n text (s ++ b ∷ text) i refl (λ e. named_scalar (is_flow p) end s (b ∷ text) e) h
@@ -605,11 +605,11 @@ spaced_if true true x p c end b s n text i e d v h = spaced_scalar p c end s (b 
 spaced_if _ _ x p c end b s n text i e d v h = absurd h
 
 spaced_goes : (x : Sign) (p : Place) (c end b : ℕ) (s : List ℕ) (n : Nest) (text : List ℕ) → sign_of b ≡ x → is_ending x ≡ true
-    → Went (spaced_value (spot_at p c) s end x) s n text → Rest p c (Left n) (s ++ b ∷ text)
+    → Went (value_if (is_spaced_scalar (is_flow p) s end) (spot_at p c) x) s n text → Rest p c (Left n) (s ++ b ∷ text)
 spaced_goes x p c end b s n text i e h = spaced_if (is_spaced_scalar (is_flow p) s end) (takes_values p) x p c end b s n text i e refl refl h
 
 either_spaced : (t : Bool) (x : Sign) (p : Place) (c end b : ℕ) (s : List ℕ) (n : Nest) (text : List ℕ) → sign_of b ≡ x → ends_entry x ≡ t
-    → (u : Bool) → Went (cond (u && t) (spaced_value (spot_at p c) s end x) (more_plain (spot_at p c) b)) s n text → is_ending x ≡ ends_entry x → Rest p c (Left n) (s ++ b ∷ text)
+    → (u : Bool) → Went (cond (u && t) (value_if (is_spaced_scalar (is_flow p) s end) (spot_at p c) x) (more_plain (spot_at p c) b)) s n text → is_ending x ≡ ends_entry x → Rest p c (Left n) (s ++ b ∷ text)
 either_spaced true x p c end b s n text i e true h j = spaced_goes x p c end b s n text i (j ∙ e) h
 either_spaced true x p c end b s n text i e false h j = more_plain_goes p c b s n text h
 either_spaced false x p c end b s n text i e true h j = more_plain_goes p c b s n text h

@@ -396,7 +396,7 @@ fn item_if(spot: Spot, sign: Sign) -> Option<Move>
 }
 
 /// Whether a place is the start of a line without spaces.
-fn is_margin(spot: Spot) -> bool
+pub(crate) fn is_margin(spot: Spot) -> bool
     ensures { result ≡ computed.is_margin spot.place spot.column }
 {
     matches!(spot.place, Place::Line) && spot.column == 0

@@ -1,4 +1,5 @@
 -- The machine for JSON: a control, and what is open.
+use Rattle.std.specs.Bool.{then_some}
 use Rattle.std.specs.Prelude.{ℕ, Bool, true, false, ◌||◌, ◌&&◌, ◌==◌, nat_lt, nat_le, List, [], ◌∷◌, ◌++◌, Option, Some, None, option_map, if◌then◌else◌}
 use Rattle.std.specs.Char.{is_ascii_digit}
 use Rattle.std.specs.Option.{option_to_list}
@@ -116,8 +117,7 @@ at_text r _ = to (at.Text r)
 
 -- the next control where a test passes
 abbrev pub next : Bool → Control → Option Action
-next true q = to q
-next false q = None
+next t q = then_some t (action.To q)
 
 -- in an escape
 abbrev pub at_escape : Role → Escape → ℕ → Option Action

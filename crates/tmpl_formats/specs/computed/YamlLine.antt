@@ -160,36 +160,27 @@ ends_entry sign.Comma = true
 ends_entry (sign.Close k) = true
 ends_entry _ = false
 
-abbrev pub whole_value : Spot → List ℕ → Sign → Option Move
-whole_value x text s = value_if (is_scalar (is_flow x.place) text (length text)) x s
-
 abbrev pub after_plain : Spot → List ℕ → Sign → ℕ → Option Move
-after_plain x text sign.Newline b = whole_value x text sign.Newline
+after_plain x text sign.Newline b = value_if (is_scalar (is_flow x.place) text (length text)) x sign.Newline
 after_plain x text sign.Colon b = move_to (at.PlainColon x (length text)) (writes.Add b) event.Nothing
 after_plain x text sign.Space b = move_to (at.PlainSpace x (length text)) (writes.Add b) event.Nothing
-after_plain x text s b = if is_flow x.place && ends_entry s then whole_value x text s else more_plain x b
-
-abbrev pub named_key : Spot → List ℕ → ℕ → Sign → Option Move
-named_key x text end s = key_if (is_name (is_flow x.place) text end) x s
+after_plain x text s b = if is_flow x.place && ends_entry s then value_if (is_scalar (is_flow x.place) text (length text)) x s else more_plain x b
 
 abbrev pub after_colon : Spot → List ℕ → ℕ → Sign → ℕ → Option Move
-after_colon x text end sign.Space b = named_key x text end sign.Space
-after_colon x text end sign.Newline b = named_key x text end sign.Newline
+after_colon x text end sign.Space b = key_if (is_name (is_flow x.place) text end) x sign.Space
+after_colon x text end sign.Newline b = key_if (is_name (is_flow x.place) text end) x sign.Newline
 after_colon x text end sign.Colon b = move_to (at.PlainColon x (length text)) (writes.Add b) event.Nothing
 after_colon x text end s b = more_plain x b
 
 abbrev pub comment_if : Bool → Spot → Option Move
 comment_if t x = if t && takes_values x.place && not (is_flow x.place) then to at.Comment (event.One (token.Scalar x.column)) else None
 
-abbrev pub spaced_value : Spot → List ℕ → ℕ → Sign → Option Move
-spaced_value x text end s = value_if (is_spaced_scalar (is_flow x.place) text end) x s
-
 abbrev pub after_space : Spot → List ℕ → ℕ → Sign → ℕ → Option Move
 after_space x text end sign.Space b = move_to (at.PlainSpace x end) (writes.Add b) event.Nothing
-after_space x text end sign.Newline b = spaced_value x text end sign.Newline
+after_space x text end sign.Newline b = value_if (is_spaced_scalar (is_flow x.place) text end) x sign.Newline
 after_space x text end sign.Hash b = comment_if (is_spaced_scalar (is_flow x.place) text end) x
 after_space x text end sign.Colon b = None
-after_space x text end s b = if is_flow x.place && ends_entry s then spaced_value x text end s else more_plain x b
+after_space x text end s b = if is_flow x.place && ends_entry s then value_if (is_spaced_scalar (is_flow x.place) text end) x s else more_plain x b
 
 -- quoted scalars
 abbrev pub in_double : Spot → ℕ → Option Move
