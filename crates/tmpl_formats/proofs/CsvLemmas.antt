@@ -125,8 +125,7 @@ no_nil b bs e = cc
 
 record_of : (columns b : ℕ) (text : List ℕ) → FieldsLeft columns 0 (b ∷ text) → IsRecord columns (b ∷ text)
 record_of columns b text (fields_left count e fs) =
-    let same : count ≡ columns = omega arith in
-    record { fields = rw same at fs; some = no_nil b text }
+    let same : count ≡ columns = omega arith in record { fields = rw same at fs; some = no_nil b text }
 
 records_left : (columns : ℕ) (text : List ℕ) → Left columns (IsRecord columns) text → IsCsv columns text
 records_left columns _ (at_last p) = last_record p
@@ -177,14 +176,12 @@ bare_goes : (s : Sign) (columns fields b : ℕ) (text : List ℕ) → sign_of b 
     → Left columns (BareLeft columns fields) (b ∷ text)
 bare_goes sign.Other columns fields b text e h known =
     left-cons columns b text (λ t p. bare_more columns fields b t (bares b ∙ ap other_sign e) p) (on columns (at.Bare fields) text known h)
-bare_goes s columns fields b text e h known =
-    left-map columns (b ∷ text) (λ t p. bare_left [] t refl p) (tail_goes s columns fields b text e h known)
+bare_goes s columns fields b text e h known = left-map columns (b ∷ text) (λ t p. bare_left [] t refl p) (tail_goes s columns fields b text e h known)
 
 field_goes : (s : Sign) (columns fields b : ℕ) (text : List ℕ) → sign_of b ≡ s → Accepts columns (at_field columns fields s) text → Known columns text
     → Left columns (FieldsLeft columns fields) (b ∷ text)
 field_goes sign.Quote columns fields b text e h known = rw (byte_of sign.Quote b e refl) (left-cons columns 34 text (λ t p. quoted_first columns fields t p) (on columns (at.Quoted fields) text known h))
-field_goes s columns fields b text e h known =
-    left-map columns (b ∷ text) (λ t p. bare_first columns fields t p) (bare_goes s columns fields b text e h known)
+field_goes s columns fields b text e h known = left-map columns (b ∷ text) (λ t p. bare_first columns fields t p) (bare_goes s columns fields b text e h known)
 
 -- where a record begins
 start_goes : (s : Sign) (columns b : ℕ) (text : List ℕ) → sign_of b ≡ s → Accepts columns (after_sign columns at.Start s) text → Known columns text

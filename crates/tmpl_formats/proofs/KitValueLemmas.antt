@@ -219,8 +219,7 @@ string_lexed text rest r = lex_sign 34 text ∙ rw (r.content_of, r.lexed) refl
 -- a scalar whose token is read
 scalar_value : (p : Place) (text rest : List ℕ) (t : Token) → IsScalar t → lex lexer.between text ≡ lexer.token t ∷ lex lexer.between rest → may_begin p ≡ true
     → begins_colon (lex lexer.between rest) ≡ false → Enough (λ depth. Val depth (Tokens p text) (Tokens lexer.after_value rest))
-scalar_value p text rest t s e m c =
-    (0, λ depth le. rw (e, scalar_placed p t (lex lexer.between rest) s m c) (scalar s))
+scalar_value p text rest t s e m c = (0, λ depth le. rw (e, scalar_placed p t (lex lexer.between rest) s m c) (scalar s))
 
 number_scalar : (t : Token) → IsNumberToken t → IsScalar t
 number_scalar _ (a_number s) = number s
@@ -282,8 +281,7 @@ last_of_items p text rest v = (v.0, λ depth le. its_more (v.1 depth le) (rw (en
 
 more_of_items : (p : Place) (text more rest : List ℕ) → Enough (λ depth. Val depth (Tokens p text) (Tokens lexer.after_value (44 ∷ more)))
     → Enough (λ depth. Its depth (Tokens lexer.after_comma more) (Tokens lexer.after_value rest)) → Enough (λ depth. Its depth (Tokens p text) (Tokens lexer.after_value rest))
-more_of_items p text more rest v i =
-    (v.0 + i.0, λ depth le. its_more (v.1 depth (omega arith)) (rw (comma_tokens more) (i.1 depth (omega arith))))
+more_of_items p text more rest v i = (v.0 + i.0, λ depth le. its_more (v.1 depth (omega arith)) (rw (comma_tokens more) (i.1 depth (omega arith))))
 
 last_of_members : (p : Place) (text value rest : List ℕ) (s : List ℕ) → Tokens p text ≡ kit.key s ∷ Tokens lexer.fresh value
     → Enough (λ depth. Val depth (Tokens lexer.fresh value) (Tokens lexer.after_value (125 ∷ rest)))

@@ -26,8 +26,7 @@ fault_of : (t : Marks) (line : List ℕ) (found : Bool) → is_utf8 line ≡ tru
 fault_of t line found u e = rw (u, e) refl
 
 pub good_line : (t : Marks) (line text : List ℕ) (r : Bool) → text ≡ line → IsUtf8 line → r ≡ true → IsTrue r ↔ Finds (plain t) (chars text) → None ≡ line_fault t line
-good_line t line text r same u e both =
-    fault_of t line true (is_utf8-from_IsUtf8 line u) (finds_back t (chars line) (rw same at (both.0 e)))
+good_line t line text r same u e both = fault_of t line true (is_utf8-from_IsUtf8 line u) (finds_back t (chars line) (rw same at (both.0 e)))
 
 pub no_match : (t : Marks) (line text : List ℕ) (r : Bool) → text ≡ line → IsUtf8 line → r ≡ false → IsTrue r ↔ Finds (plain t) (chars text) → Some 0 ≡ line_fault t line
 no_match t line text r same u e both =
@@ -125,8 +124,7 @@ no_bytes (x ∷ xs) e = absurd (omega arith)
 
 pub text-ends : (t : Marks) (text : List ℕ) (start offset : ℕ) → offset ≡ length text → IsAtLine t text start offset → start ≡ length text → None ≡ lines_mistake t text
 text-ends t text start offset is at e =
-    let empty = no_bytes (drop start text) (omega (arith, length-drop start text)) in
-    rw empty at (at_end t text start offset is at)
+    let empty = no_bytes (drop start text) (omega (arith, length-drop start text)) in rw empty at (at_end t text start offset is at)
 
 all_left : (text : List ℕ) (start : ℕ) → take (length text - start) (drop start text) ≡ drop start text
 all_left text start = take_all (length text - start) (drop start text) (omega (arith, length-drop start text))
@@ -149,5 +147,4 @@ place-fits t line n e = line_within t line n (sym e)
 
 pub last-fits : (t : Marks) (text : List ℕ) (start n : ℕ) → start ≤ length text → Some n ≡ line_fault t (take (length text - start) (drop start text)) → start + n ≤ length text
 last-fits t text start n le e =
-    let fits = place-fits t (drop start text) n (e ∙ ap (line_fault t) (all_left text start)) in
-    omega (arith, length-drop start text)
+    let fits = place-fits t (drop start text) n (e ∙ ap (line_fault t) (all_left text start)) in omega (arith, length-drop start text)

@@ -21,5 +21,4 @@ items-end text left next spans known e = rw (← append_nil spans) (known [] (93
 pub class_of : (is_negated : Bool) (text mid rest : List ℕ) (spans : List Span) → (is_negated ≡ true → text ≡ 94 ∷ mid) → (is_negated ≡ false → mid ≡ text) → is_negated ≡ begins_with 94 text
     → HasItems mid spans (93 ∷ rest) → HasAtom (91 ∷ text) (tree.One is_negated spans) rest
 class_of true text mid rest spans taken kept begins h = rw (taken refl) (negated_class h)
-class_of false text mid rest spans taken kept begins h =
-    class (sym begins) (rw (kept refl) at h)
+class_of false text mid rest spans taken kept begins h = class (sym begins) (rw (kept refl) at h)

@@ -163,8 +163,7 @@ kept-shifted first c End e = tt
 kept-shifted first c (Both x y) e = (kept-shifted first c x e, kept-shifted first c y (passes first x e))
 kept-shifted first c (Either x y) e = (kept-shifted first c x e, kept-shifted first c y e)
 kept-shifted first c (Many x ended) e =
-    let into = e || (ended && not first) in
-    (and_true (passes false (shifted first c x into) false), kept-shifted first c x into)
+    let into = e || (ended && not first) in (and_true (passes false (shifted first c x into) false), kept-shifted first c x into)
 
 -- ---- a character is read
 

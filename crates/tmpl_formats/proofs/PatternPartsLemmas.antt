@@ -36,8 +36,7 @@ any_turns turn copy same = rw same any
 pub all_turns : (turn some others all : Tree) (least : ℕ) (most : Option ℕ) → IfSome most (λ m. least ≤ m) → all ≡ tree.Both some others → IsRepeated turn least (Some least) some
     → IsRepeated turn 0 (further least most) others → IsRepeated turn least most all
 all_turns turn some others all least None le same h k =
-    let e : least + 0 ≡ least = omega arith in
-    rw same (rw e at (sum h k))
+    let e : least + 0 ≡ least = omega arith in rw same (rw e at (sum h k))
 all_turns turn some others all least (Some most) le same h k =
     let e : least + 0 ≡ least = omega arith in
     let f : least + (most - least) ≡ most = omega arith in
@@ -74,8 +73,7 @@ last_piece e _ rest (x ∷ trees) t (piece text {more = more} p row) =
     let l = last_piece e more rest trees t row in (l.0, piece text p l.1, l.2)
 
 pub last-part : (e : Bool) (text rest : List ℕ) (old new : List Node) (node : Node) → old ≡ new ++ node ∷ [] → HasRow e text (trees_of old) rest → Ended e text (trees_of new) (tree_of node) rest
-last-part e text rest old new node is h =
-    last_piece e text rest (trees_of new) (tree_of node) (rw (ap trees_of is ∙ trees-push new node) at h)
+last-part e text rest old new node is h = last_piece e text rest (trees_of new) (tree_of node) (rw (ap trees_of is ∙ trees-push new node) at h)
 
 joins : (e : Bool) (text mid rest : List ℕ) (a b : Tree) → HasPiece e text a (separator e ++ mid) → HasPiece e mid b rest → HasPiece e text (joint e a b) rest
 joins true text mid rest a b h k = either h k

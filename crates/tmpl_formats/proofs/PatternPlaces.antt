@@ -71,8 +71,7 @@ part_of (Either x y) next b s h =
     (λ g. let r = part_of x next b s g in (r.0, r.1, r.2, inl r.3, r.4))
     (λ g. let r = part_of y next b s g in (r.0, r.1, r.2, inr r.3, r.4))
 part_of (Many x) next b s h =
-    let r = parts_of_rounds (Has x) (Leads x) next (part_of x) h.0 b s h.1 in
-    (r.0, r.1, r.2, (h.0, r.3), r.4)
+    let r = parts_of_rounds (Has x) (Leads x) next (part_of x) h.0 b s h.1 in (r.0, r.1, r.2, (h.0, r.3), r.4)
 
 -- ---- .. and the other way
 
@@ -96,8 +95,7 @@ rounds_of_parts Is has next known (suc n) b part after h k =
 
 leads_of : (p : Tree) (next : Place) (b part after : List ℕ) → Has p b part after → next (b ++ part) after → Leads p next b (part ++ after)
 leads_of Empty next b part after h k = from_no_part next b part after h k
-leads_of (One is_negated spans) next b part after h k =
-    (h.0, after, ap (λ p. p ++ after) h.1, h.2, (rw h.1 at k))
+leads_of (One is_negated spans) next b part after h k = (h.0, after, ap (λ p. p ++ after) h.1, h.2, (rw h.1 at k))
 leads_of Begin next b part after h k = (h.1, from_no_part next b part after h.0 k)
 leads_of End next b part after h k = (ap (λ p. p ++ after) h.0 ∙ h.1, from_no_part next b part after h.0 k)
 leads_of (Both x y) next b part after h k = joined next (Leads y next) (Leads x) (Has x) (Has y) b part after (leads_of x (Leads y next)) (leads_of y next) h k
@@ -111,5 +109,4 @@ finds-leads p text h = (h.0, h.1 ++ h.2, h.3, leads_of p Any h.0 h.1 h.2 h.4 tt)
 
 pub leads-finds : (p : Tree) (text before rest : List ℕ) → text ≡ before ++ rest → Leads p Any before rest → Finds p text
 leads-finds p text before rest e h =
-    let r = part_of p Any before rest h in
-    (before, r.0, r.1, e ∙ ap (λ s. before ++ s) r.2, r.3)
+    let r = part_of p Any before rest h in (before, r.0, r.1, e ∙ ap (λ s. before ++ s) r.2, r.3)

@@ -59,8 +59,7 @@ abbrev Later : Tree → Place
 Later p b s = (skip rest : List ℕ) × (s ≡ skip ++ rest) × Leads p Any (b ++ skip) rest
 
 later_at : (p : Tree) (b : List ℕ) (c : ℕ) (s skip rest : List ℕ) → c ∷ s ≡ skip ++ rest → Leads p Any (b ++ skip) rest → Leads p Any b (c ∷ s) ⊎ Later p (b ++ c ∷ []) s
-later_at p b c s [] rest e h =
-    inl (rw (append_nil b, ← e) at h)
+later_at p b c s [] rest e h = inl (rw (append_nil b, ← e) at h)
 later_at p b c s (d ∷ skip) rest e h =
     let same : d ≡ c = cc in
     let left : s ≡ skip ++ rest = cc in
@@ -73,8 +72,7 @@ now : (p : Tree) (b s : List ℕ) → Leads p Any b s → Later p b s
 now p b s h = ([], s, refl, (rw (← append_nil b) at h))
 
 from_later : (p : Tree) (b : List ℕ) (c : ℕ) (s : List ℕ) → Later p (b ++ c ∷ []) s → Later p b (c ∷ s)
-from_later p b c s h =
-    (c ∷ h.0, h.1, ap (λ r. c ∷ r) h.2, (rw (append_assoc b (c ∷ []) h.0) at h.3))
+from_later p b c s h = (c ∷ h.0, h.1, ap (λ r. c ∷ r) h.2, (rw (append_assoc b (c ∷ []) h.0) at h.3))
 
 later_end_at : (p : Tree) (b skip rest : List ℕ) → [] ≡ skip ++ rest → Leads p Any (b ++ skip) rest → Leads p Any b []
 later_end_at p b [] rest e h = rw (e, ← append_nil b) h
@@ -157,5 +155,4 @@ finds_so t text h =
 
 pub finds_back : (t : Marks) (text : List ℕ) → Finds (plain t) text → finds (begun t) text ≡ true
 finds_back t text h =
-    let l = finds-leads (plain t) text h in
-    found_by text [] t false (inr (kept-first t)) (inr (inr l))
+    let l = finds-leads (plain t) text h in found_by text [] t false (inr (kept-first t)) (inr (inr l))

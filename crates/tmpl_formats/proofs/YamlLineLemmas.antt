@@ -315,10 +315,8 @@ opened_rest p c k n text v (rest_of h l) = rest_of (open_ k v h) l
 node_goes : (x : Sign) (p : Place) (c b : ℕ) (s : List ℕ) (n : Nest) (text : List ℕ) → sign_of b ≡ x → takes_values p ≡ true → Went (at_node (spot_at p c) x b) s n text
     → Rest p c (Left n) (b ∷ text)
 node_goes sign.Dash p c b s n text i v h = rw (byte_of sign.Dash b i refl) ((lead_reach p c (at.Dash (spot_at p c)) s n text h).1)
-node_goes sign.Start p c b s n text i v h =
-    (begin_reach p c (at.Plain (spot_at p c)) (b ∷ []) n text h).1
-node_goes sign.Lead p c b s n text i v h =
-    (begin_reach p c (at.Plain (spot_at p c)) (b ∷ []) n text h).1
+node_goes sign.Start p c b s n text i v h = (begin_reach p c (at.Plain (spot_at p c)) (b ∷ []) n text h).1
+node_goes sign.Lead p c b s n text i v h = (begin_reach p c (at.Plain (spot_at p c)) (b ∷ []) n text h).1
 node_goes sign.Double p c b s n text i v h = rw (byte_of sign.Double b i refl) (double_reached p c s (Left n) text (begin_reach p c (at.Double (spot_at p c)) s n text h))
 node_goes sign.Single p c b s n text i v h = rw (byte_of sign.Single b i refl) (single_reached p c s (Left n) text (begin_reach p c (at.Single (spot_at p c)) s n text h))
 node_goes sign.Mark p c b s n text i v h = mark_goes (parent_of p) p c b s n text refl (marks b (ap mark_sign i)) h
@@ -455,8 +453,7 @@ item_rest p c n text v f (g, rest_of h l) = rest_of (item v f g h) l
 
 item_if_goes : (t u : Bool) (p : Place) (x : Sign) (c b : ℕ) (s : List ℕ) (n : Nest) (text : List ℕ) → sign_of b ≡ x → takes_keys p ≡ t → is_flow p ≡ u
     → Went (cond (t && not u) (at_next_gap (place.Item c) c x (event.Item c)) None) s n text → Rest p c (Left n) (45 ∷ b ∷ text)
-item_if_goes true false p x c b s n text i v f h =
-    item_rest p c n (b ∷ text) v f (next_gap_goes x (place.Item c) c (event.Item c) b s n text i h)
+item_if_goes true false p x c b s n text i v f h = item_rest p c n (b ∷ text) v f (next_gap_goes x (place.Item c) c (event.Item c) b s n text i h)
 item_if_goes _ _ p x c b s n text i v f h = absurd h
 
 -- ---- dashes
@@ -495,8 +492,7 @@ marker_goes n (k ∷ bs) s text e h = absurd h
 
 dashes_goes : (x : Sign) (b : ℕ) (s : List ℕ) (n : Nest) (text : List ℕ) → sign_of b ≡ x → Went (after_dashes x b) s n text → Rest place.Line 0 (Left n) (45 ∷ 45 ∷ b ∷ text)
 dashes_goes sign.Dash b s n text i h = rw (byte_of sign.Dash b i refl) (marker_goes n n.brackets s text refl h)
-dashes_goes sign.Start b s n text i h =
-    (reach (at.Plain (spot_at place.Line 0)) (45 ∷ 45 ∷ b ∷ []) (event.Begin 0) n text h).1
+dashes_goes sign.Start b s n text i h = (reach (at.Plain (spot_at place.Line 0)) (45 ∷ 45 ∷ b ∷ []) (event.Begin 0) n text h).1
 dashes_goes _ b s n text i h = absurd h
 
 -- ---- after brackets, and comments
@@ -697,16 +693,14 @@ quoted_colon_goes p c s n text h = (guarded (takes_keys p) (to (at.QuotedColon (
 
 quoted_goes : (z : Sign) (x : Spot) (b : ℕ) (s : List ℕ) (n : Nest) (text : List ℕ) → sign_of b ≡ z → Went (after_quoted x z) s n text → QuotedRest x (Left n) (b ∷ text)
 quoted_goes sign.Colon x b s n text i h = rw (byte_of sign.Colon b i refl) (quoted_colon_goes x.place x.column s n text h)
-quoted_goes z x b s n text i h =
-    λ whole q. value_if_goes true (takes_values x.place) x.place z x.column b s n text whole i refl (λ e. quoted q) h
+quoted_goes z x b s n text i h = λ whole q. value_if_goes true (takes_values x.place) x.place z x.column b s n text whole i refl (λ e. quoted q) h
 
 quote_goes : (z : Sign) (x : Spot) (b : ℕ) (s : List ℕ) (n : Nest) (text : List ℕ) → sign_of b ≡ z → Went (after_quote x z) s n text → SingleRest x (Left n) (39 ∷ b ∷ text)
 quote_goes sign.Single x b s n text i h = rw (byte_of sign.Single b i refl) (λ whole q. h whole (λ rest d. q rest (doubled d)))
 quote_goes z x b s n text i h = λ whole q. quoted_goes z x b s n text i h whole (q (b ∷ text) close_single)
 
 quoted_key_goes : (z : Sign) (x : Spot) (b : ℕ) (s : List ℕ) (n : Nest) (text : List ℕ) → sign_of b ≡ z → Went (key_if true x z) s n text → QuotedRest x (Left n) (58 ∷ b ∷ text)
-quoted_key_goes z x b s n text i h =
-    λ whole q. key_if_goes true (takes_keys x.place) x.place z x.column b s n text whole i refl (λ e. quoted q) h
+quoted_key_goes z x b s n text i h = λ whole q. key_if_goes true (takes_keys x.place) x.place z x.column b s n text whole i refl (λ e. quoted q) h
 
 -- ---- block scalars
 
@@ -752,8 +746,7 @@ first_text_goes : (t u : Bool) (x : Sign) (parent c b : ℕ) (s : List ℕ) (n :
     → BlockRest parent (Left n) (spaces c ++ b ∷ text)
 first_text_goes true u x parent c b s n text i j e f h = both empty (spaced_line c (Left n) (b ∷ text) (place_goes place.Line x c b s n text i h))
 first_text_goes false true x parent c b s n text i j e f h = absurd h
-first_text_goes false false x parent c b s n text i j e f h =
-    begun_block parent c b (Left n) text (greater c parent e) (texts b (ap text_sign i ∙ j) f) h
+first_text_goes false false x parent c b s n text i j e f h = begun_block parent c b (Left n) text (greater c parent e) (texts b (ap text_sign i ∙ j) f) h
 
 block_goes : (x : Sign) (parent c b : ℕ) (s : List ℕ) (n : Nest) (text : List ℕ) → sign_of b ≡ x → Went (in_block parent c x b) s n text
     → BlockRest parent (Left n) (spaces c ++ b ∷ text)

@@ -4,8 +4,7 @@ use Rattle.tmpl_formats.proofs.pattern_text.Reader.counts.Goals as goal
 
 pub returns-then-takes : goal.returns-then-takes
 returns-then-takes c =
-    let n = c.in_ok-least.ensures in
-    exactly n.1 (rw (c.if-takes.ensures.taken refl) at n.2)
+    let n = c.in_ok-least.ensures in exactly n.1 (rw (c.if-takes.ensures.taken refl) at n.2)
 
 pub returns-then-takes-2 : goal.returns-then-takes-2
 returns-then-takes-2 c =
