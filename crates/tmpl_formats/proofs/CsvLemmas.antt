@@ -2,6 +2,7 @@
 use Rattle.std.proofs.Common.{◌≡◌, ◌≢◌, ℕ, suc, ◌+◌, ◌==◌, Bool, true, false, cond, List, [], ◌∷◌, ◌++◌, Option, Some, None, arith, refl, ◌∙◌, ap, append_assoc, append-nil}
 use Rattle.std.proofs.lemmas.Grind.{common_steps}
 use Rattle.std.specs.List.{list_all}
+use Rattle.std.specs.Bool.{then_some}
 use Rattle.std.specs.Prelude.{not, nat_lt, option_map}
 use Rattle.tmpl_formats.proofs.MachineLemmas.{went, passes-cons}
 use Rattle.tmpl_formats.specs.Csv.{is_bare, is_inside, IsInside, nothing, plain, doubled, IsField, bare, quoted, IsFields, last, more, IsRecord, IsNewline, newline, return_newline, IsCsv, empty, last_record, more_records}
@@ -148,7 +149,7 @@ Known columns text = (p : Place) → mistake step ends (csv_at columns p) text �
 on : (columns : ℕ) (p : Place) (text : List ℕ) → Known columns text → Accepts columns (Some p) text → Goes columns p text
 on columns p text known h = known p (went (λ x. mistake step ends x text) (csv_at columns p) h)
 
-on_if : (columns : ℕ) (p : Place) (t : Bool) (text : List ℕ) → Known columns text → Accepts columns (cond t (Some p) None) text → (t ≡ true) × Goes columns p text
+on_if : (columns : ℕ) (p : Place) (t : Bool) (text : List ℕ) → Known columns text → Accepts columns (then_some t p) text → (t ≡ true) × Goes columns p text
 on_if columns p true text known h = (refl, on columns p text known h)
 on_if columns p false text known h = cc
 

@@ -1,4 +1,5 @@
 -- The machine for CSV.
+use Rattle.std.specs.Bool.{then_some}
 use Rattle.std.specs.Prelude.{ℕ, ◌+◌, Bool, true, false, ◌==◌, nat_lt, List, Option, Some, None, option_map, if◌then◌else◌}
 use Rattle.std.specs.Str.{byte}
 use Rattle.tmpl_formats.specs.computed.Machine.{mistake}
@@ -19,17 +20,13 @@ sign_of b =
 
 -- after a comma, if the record has one more field
 abbrev pub next_field : ℕ → ℕ → Option Place
-next_field columns fields = if nat_lt (fields + 1) columns then Some (at.Field (fields + 1)) else None
-
--- after the last field of a record, at the next place
-abbrev pub if_last : ℕ → ℕ → Place → Option Place
-if_last columns fields next = if fields + 1 == columns then Some next else None
+next_field columns fields = then_some (nat_lt (fields + 1) columns) (at.Field (fields + 1))
 
 -- where a field may end
 abbrev pub after_field : ℕ → ℕ → Sign → Option Place
 after_field columns fields sign.Comma = next_field columns fields
-after_field columns fields sign.Newline = if_last columns fields at.Start
-after_field columns fields sign.Return = if_last columns fields at.Return
+after_field columns fields sign.Newline = then_some (fields + 1 == columns) at.Start
+after_field columns fields sign.Return = then_some (fields + 1 == columns) at.Return
 after_field columns fields _ = None
 
 abbrev pub after_bare : ℕ → ℕ → Sign → Option Place
