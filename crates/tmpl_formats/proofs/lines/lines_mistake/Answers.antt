@@ -1,4 +1,4 @@
-use Rattle.std.proofs.Common.{◌≡◌, ◌-◌, ◌+◌, length, take, drop, Some, None, ap, ◌∙◌, arith, length-drop}
+use Rattle.std.proofs.Common.{◌≡◌, ◌-◌, length, take, drop, Some, None, ap, ◌∙◌, arith, length-drop}
 use Rattle.std.proofs.lemmas.List.{length-take-le}
 use Rattle.tmpl_formats.proofs.LinesLoopLemmas.{line-goes_on, line-next, line-refused, text-ends, last-line, last-fits, place-fits}
 use Rattle.tmpl_formats.specs.PatternView.{marks_of}

@@ -1,4 +1,3 @@
-use Rattle.tmpl_formats.specs.Pattern as tree
 use Rattle.tmpl_formats.proofs.PatternTextLemmas.{with_some}
 use Rattle.tmpl_formats.proofs.PatternClassLemmas.{class_of}
 use Rattle.tmpl_formats.proofs.pattern_text.Reader.class.Goals as goal
