@@ -1,8 +1,8 @@
 -- What the machine for environment files accepts is one.
-use Rattle.std.proofs.Common.{◌≡◌, ℕ, Bool, true, false, List, [], ◌∷◌, ◌++◌, Some, None, arith, refl, sym, ◌∙◌, ap, subst}
+use Rattle.std.proofs.Common.{◌≡◌, ℕ, ◌==◌, Bool, true, false, List, [], ◌∷◌, ◌++◌, Some, None, arith, refl, ◌∙◌, ap}
 use Rattle.std.proofs.lemmas.Grind.{common_steps}
 use Rattle.std.specs.List.{list_all}
-use Rattle.std.specs.Prelude.{codes}
+use Rattle.std.specs.Prelude.{not, codes}
 use Rattle.tmpl_formats.proofs.LineLemmas.{Left, at_last, before_more, left-cons, lines-left, left-newline}
 use Rattle.tmpl_formats.proofs.MachineLemmas.{went, passes-cons}
 use Rattle.tmpl_formats.specs.Env.{is_comment, is_single, is_double, is_special, is_bare, is_name_start, is_name_byte, IsDouble, nothing, plain, escape, IsValue, bare, single, double, IsLine, empty, comment, assignment, IsEnv}
@@ -15,29 +15,24 @@ use Rattle.tmpl_formats.specs.declared.env.Sign.TheVariants as sign
 
 -- ---- which kinds pass a test
 
-abbrev newline_sign : Sign → Bool
-newline_sign sign.Newline = true
-newline_sign _ = false
+abbrev code_of : Sign → ℕ
+code_of sign.Newline = 10
+code_of sign.Hash = 35
+code_of sign.Equals = 61
+code_of sign.Single = 39
+code_of sign.Double = 34
+code_of sign.Backslash = 92
+code_of _ = 0
 
-abbrev hash_sign : Sign → Bool
-hash_sign sign.Hash = true
-hash_sign _ = false
+abbrev is_code : Sign → Bool
+is_code s = not (code_of s == 0)
 
-abbrev equals_sign : Sign → Bool
-equals_sign sign.Equals = true
-equals_sign _ = false
+codes_of : (b : ℕ) → is_code (sign_of b) ≡ true → b ≡ code_of (sign_of b)
+codes_of b = grind (arith, common_steps)
 
-abbrev single_quote_sign : Sign → Bool
-single_quote_sign sign.Single = true
-single_quote_sign _ = false
-
-abbrev double_quote_sign : Sign → Bool
-double_quote_sign sign.Double = true
-double_quote_sign _ = false
-
-abbrev backslash_sign : Sign → Bool
-backslash_sign sign.Backslash = true
-backslash_sign _ = false
+-- the byte of a kind that has one
+byte_of : (s : Sign) (b : ℕ) → sign_of b ≡ s → is_code s ≡ true → b ≡ code_of s
+byte_of s b e i = codes_of b (ap is_code e ∙ i) ∙ ap code_of e
 
 abbrev comment_sign : Sign → Bool
 comment_sign sign.Newline = false
@@ -78,24 +73,6 @@ bare_sign sign.Plain = true
 bare_sign sign.Letter = true
 bare_sign sign.Digit = true
 bare_sign _ = false
-
-newlines : (b : ℕ) → newline_sign (sign_of b) ≡ true → b ≡ 10
-newlines b = grind (arith, common_steps)
-
-hashes : (b : ℕ) → hash_sign (sign_of b) ≡ true → b ≡ 35
-hashes b = grind (arith, common_steps)
-
-equals : (b : ℕ) → equals_sign (sign_of b) ≡ true → b ≡ 61
-equals b = grind (arith, common_steps)
-
-single_quotes : (b : ℕ) → single_quote_sign (sign_of b) ≡ true → b ≡ 39
-single_quotes b = grind (arith, common_steps)
-
-double_quotes : (b : ℕ) → double_quote_sign (sign_of b) ≡ true → b ≡ 34
-double_quotes b = grind (arith, common_steps)
-
-backslashes : (b : ℕ) → backslash_sign (sign_of b) ≡ true → b ≡ 92
-backslashes b = grind (arith, common_steps)
 
 comments : (b : ℕ) → is_comment b ≡ comment_sign (sign_of b)
 comments b = grind (arith, common_steps)
@@ -150,48 +127,40 @@ Goes c text = Left IsLine (LeftAt c) text
 -- ---- one byte more
 
 line_ends : (c : Control) (b : ℕ) (text : List ℕ) → sign_of b ≡ sign.Newline → LeftAt c [] → Goes at.Start text → Goes c (b ∷ text)
-line_ends c b text e p rest =
-    let P : ℕ → Type 0 = λ n. Goes c (n ∷ text) in
-    subst P (sym (newlines b (ap newline_sign e))) (left-newline text p rest)
+line_ends c b text e p rest = rw (byte_of sign.Newline b e refl) (left-newline text p rest)
 
 name_more : (b : ℕ) (text : List ℕ) → is_name_byte b ≡ true → NameLeft text → NameLeft (b ∷ text)
 name_more b _ e (name_left name value n v) = name_left (b ∷ name) value (passes-cons is_name_byte b name e n) v
 
 name_ends : (b : ℕ) (text : List ℕ) → b ≡ 61 → IsValue text → NameLeft (b ∷ text)
-name_ends b text e v = let P : ℕ → Type 0 = λ n. NameLeft (n ∷ text) in subst P (sym e) (name_left [] text refl v)
+name_ends b text e v = rw e (name_left [] text refl v)
 
 name_starts_line : (b : ℕ) (text : List ℕ) → is_name_start b ≡ true → NameLeft text → IsLine (b ∷ text)
 name_starts_line b _ e (name_left name value n v) = assignment name value e n v
 
 comment_line : (b : ℕ) (text : List ℕ) → b ≡ 35 → list_all is_comment text ≡ true → IsLine (b ∷ text)
-comment_line b text e p = let P : ℕ → Type 0 = λ n. IsLine (n ∷ text) in subst P (sym e) (comment p)
+comment_line b text e p = rw e (comment p)
 
 single_value : (b : ℕ) (text : List ℕ) → b ≡ 39 → SingleLeft text → IsValue (b ∷ text)
-single_value b _ e (single_left bs p) = let P : ℕ → Type 0 = λ n. IsValue (n ∷ bs ++ codes "'") in subst P (sym e) (single bs p)
+single_value b _ e (single_left bs p) = rw e (single bs p)
 
 single_more : (b : ℕ) (text : List ℕ) → is_single b ≡ true → SingleLeft text → SingleLeft (b ∷ text)
 single_more b _ e (single_left bs p) = single_left (b ∷ bs) (passes-cons is_single b bs e p)
 
 single_ends : (b : ℕ) (text : List ℕ) → b ≡ 39 → text ≡ [] → SingleLeft (b ∷ text)
-single_ends b text e p =
-    let P : ℕ → Type 0 = λ n. SingleLeft (n ∷ text) in
-    let Q : List ℕ → Type 0 = λ t. SingleLeft (39 ∷ t) in
-    subst P (sym e) (subst Q (sym p) (single_left [] refl))
+single_ends b text e p = rw (e, p) (single_left [] refl)
 
 double_value : (b : ℕ) (text : List ℕ) → b ≡ 34 → DoubleLeft text → IsValue (b ∷ text)
-double_value b _ e (double_left bs p) = let P : ℕ → Type 0 = λ n. IsValue (n ∷ bs ++ codes "\"") in subst P (sym e) (double bs p)
+double_value b _ e (double_left bs p) = rw e (double bs p)
 
 double_more : (b : ℕ) (text : List ℕ) → is_double b ≡ true → DoubleLeft text → DoubleLeft (b ∷ text)
 double_more b _ e (double_left bs p) = double_left (b ∷ bs) (plain e p)
 
 double_ends : (b : ℕ) (text : List ℕ) → b ≡ 34 → text ≡ [] → DoubleLeft (b ∷ text)
-double_ends b text e p =
-    let P : ℕ → Type 0 = λ n. DoubleLeft (n ∷ text) in
-    let Q : List ℕ → Type 0 = λ t. DoubleLeft (34 ∷ t) in
-    subst P (sym e) (subst Q (sym p) (double_left [] nothing))
+double_ends b text e p = rw (e, p) (double_left [] nothing)
 
 double_escape : (b : ℕ) (text : List ℕ) → b ≡ 92 → EscapeLeft text → DoubleLeft (b ∷ text)
-double_escape b _ e (escape_left c bs s p) = let P : ℕ → Type 0 = λ n. DoubleLeft (n ∷ c ∷ bs ++ codes "\"") in subst P (sym e) (double_left (92 ∷ c ∷ bs) (escape s p))
+double_escape b _ e (escape_left c bs s p) = rw e (double_left (92 ∷ c ∷ bs) (escape s p))
 
 escape_more : (b : ℕ) (text : List ℕ) → is_special b ≡ true → DoubleLeft text → EscapeLeft (b ∷ text)
 escape_more b _ e (double_left bs p) = escape_left b bs e p
@@ -209,7 +178,7 @@ on d text known h = known d (went (λ x. mistake step ends x text) d h)
 
 at_start : (s : Sign) (b : ℕ) (text : List ℕ) → sign_of b ≡ s → Accepts at.Start s text → Known text → Goes at.Start (b ∷ text)
 at_start sign.Newline b text e h known = line_ends at.Start b text e empty (on at.Start text known h)
-at_start sign.Hash b text e h known = left-cons b text (λ t p. comment_line b t (hashes b (ap hash_sign e)) p) (on at.Comment text known h)
+at_start sign.Hash b text e h known = left-cons b text (λ t p. comment_line b t (byte_of sign.Hash b e refl) p) (on at.Comment text known h)
 at_start sign.Letter b text e h known = left-cons b text (λ t p. name_starts_line b t (name_starts b (ap name_start_sign e)) p) (on at.Name text known h)
 at_start _ b text e h known = cc
 
@@ -220,7 +189,7 @@ at_comment sign.Backslash b text e h known = cc
 at_comment _ b text e h known = left-cons b text (λ t p. passes-cons is_comment b t (comments b ∙ ap comment_sign e) p) (on at.Comment text known h)
 
 at_name : (s : Sign) (b : ℕ) (text : List ℕ) → sign_of b ≡ s → Accepts at.Name s text → Known text → Goes at.Name (b ∷ text)
-at_name sign.Equals b text e h known = left-cons b text (λ t p. name_ends b t (equals b (ap equals_sign e)) p) (on at.Equals text known h)
+at_name sign.Equals b text e h known = left-cons b text (λ t p. name_ends b t (byte_of sign.Equals b e refl) p) (on at.Equals text known h)
 at_name sign.Letter b text e h known = left-cons b text (λ t p. name_more b t (names b (ap name_sign e)) p) (on at.Name text known h)
 at_name sign.Digit b text e h known = left-cons b text (λ t p. name_more b t (names b (ap name_sign e)) p) (on at.Name text known h)
 at_name _ b text e h known = cc
@@ -242,20 +211,20 @@ bare_value _ (at_last p) = at_last (bare p)
 bare_value _ (before_more rest others p ls) = before_more rest others (bare p) ls
 
 at_equals : (s : Sign) (b : ℕ) (text : List ℕ) → sign_of b ≡ s → Accepts at.Equals s text → Known text → Goes at.Equals (b ∷ text)
-at_equals sign.Single b text e h known = left-cons b text (λ t p. single_value b t (single_quotes b (ap single_quote_sign e)) p) (on at.Single text known h)
-at_equals sign.Double b text e h known = left-cons b text (λ t p. double_value b t (double_quotes b (ap double_quote_sign e)) p) (on at.Double text known h)
+at_equals sign.Single b text e h known = left-cons b text (λ t p. single_value b t (byte_of sign.Single b e refl) p) (on at.Single text known h)
+at_equals sign.Double b text e h known = left-cons b text (λ t p. double_value b t (byte_of sign.Double b e refl) p) (on at.Double text known h)
 at_equals s b text e h known = bare_value (b ∷ text) (at_bare s b text e h known)
 
 at_single : (s : Sign) (b : ℕ) (text : List ℕ) → sign_of b ≡ s → Accepts at.Single s text → Known text → Goes at.Single (b ∷ text)
 at_single sign.Null b text e h known = cc
-at_single sign.Single b text e h known = left-cons b text (λ t p. single_ends b t (single_quotes b (ap single_quote_sign e)) p) (on at.Closed text known h)
+at_single sign.Single b text e h known = left-cons b text (λ t p. single_ends b t (byte_of sign.Single b e refl) p) (on at.Closed text known h)
 at_single _ b text e h known = left-cons b text (λ t p. single_more b t (singles b ∙ ap single_sign e) p) (on at.Single text known h)
 
 at_double : (s : Sign) (b : ℕ) (text : List ℕ) → sign_of b ≡ s → Accepts at.Double s text → Known text → Goes at.Double (b ∷ text)
 at_double sign.Null b text e h known = cc
 at_double sign.Expanding b text e h known = cc
-at_double sign.Double b text e h known = left-cons b text (λ t p. double_ends b t (double_quotes b (ap double_quote_sign e)) p) (on at.Closed text known h)
-at_double sign.Backslash b text e h known = left-cons b text (λ t p. double_escape b t (backslashes b (ap backslash_sign e)) p) (on at.Escape text known h)
+at_double sign.Double b text e h known = left-cons b text (λ t p. double_ends b t (byte_of sign.Double b e refl) p) (on at.Closed text known h)
+at_double sign.Backslash b text e h known = left-cons b text (λ t p. double_escape b t (byte_of sign.Backslash b e refl) p) (on at.Escape text known h)
 at_double _ b text e h known = left-cons b text (λ t p. double_more b t (doubles b ∙ ap double_sign e) p) (on at.Double text known h)
 
 at_escape : (s : Sign) (b : ℕ) (text : List ℕ) → sign_of b ≡ s → Accepts at.Escape s text → Known text → Goes at.Escape (b ∷ text)
@@ -283,13 +252,10 @@ at_end : (c : Control) → mistake step ends c [] ≡ None → Goes c []
 unfolding mistake
 at_end at.Start h = at_last empty
 at_end at.Comment h = at_last refl
-at_end at.Name h = cc
 at_end at.Equals h = at_last (bare refl)
 at_end at.Bare h = at_last refl
-at_end at.Single h = cc
-at_end at.Double h = cc
-at_end at.Escape h = cc
 at_end at.Closed h = at_last refl
+at_end _ h = cc
 
 left_at : (text : List ℕ) (c : Control) → mistake step ends c text ≡ None → Goes c text
 unfolding mistake

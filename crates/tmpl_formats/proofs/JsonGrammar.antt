@@ -8,7 +8,7 @@ use Rattle.tmpl_formats.specs.computed.JsonBytes.{is_white, is_plain, is_short_e
 
 -- ---- strings
 
--- so many hexadecimal digits
+-- this many hexadecimal digits
 pub data HasHex : ℕ → List ℕ → List ℕ → Type 0 where
   no_digit : {rest : List ℕ} → HasHex 0 rest rest
   a_digit : {count b : ℕ} {text rest : List ℕ} → hex_value b < 16 → HasHex count text rest → HasHex (count + 1) (b ∷ text) rest

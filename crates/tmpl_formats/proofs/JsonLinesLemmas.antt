@@ -1,5 +1,5 @@
 -- What the machine for JSON lines accepts is JSON lines.
-use Rattle.std.proofs.Common.{◌≡◌, ℕ, ◌==◌, Bool, true, false, cond, List, [], ◌∷◌, Option, Some, None, arith, refl, sym, subst}
+use Rattle.std.proofs.Common.{◌≡◌, ℕ, ◌==◌, Bool, true, false, cond, List, [], ◌∷◌, Option, Some, None, arith, refl}
 use Rattle.std.proofs.lemmas.Grind.{common_steps}
 use Rattle.std.specs.Prelude.{option_map}
 use Rattle.tmpl_formats.proofs.JsonLemmas.{json_within}
@@ -82,7 +82,7 @@ equal_of m n = grind (arith, common_steps)
 
 byte_goes : (t : Bool) (x : Option json.Config) (b : ℕ) (text : List ℕ) → (b == 10) ≡ t
     → after_step (λ d. mistake step ends d text) (cond t (cond (ends x) (Some None) None) (within x b)) ≡ None → Known text → Goes x (b ∷ text)
-byte_goes true x b text e h known = let P : ℕ → Type 0 = λ n. Goes x (n ∷ text) in subst P (sym (equal_of b 10 e)) (newline_goes (ends x) x text refl h known)
+byte_goes true x b text e h known = rw (equal_of b 10 e) (newline_goes (ends x) x text refl h known)
 byte_goes false x b text e h known = within_goes x b text h known
 
 end_goes : (t : Bool) (x : Option json.Config) → ends x ≡ t → cond {A = Option ℕ} t None (Some 0) ≡ None → Goes x []
@@ -98,7 +98,7 @@ is_space_of : (b : ℕ) → is_white b ≡ true → is_space b ≡ true
 is_space_of b h = grind (arith, common_steps)
 
 all_space : (line rest : List ℕ) → rest ≡ [] → HasSpace line rest → list_all is_space line ≡ true
-all_space line _ e no_space = let P : List ℕ → Type 0 = λ t. list_all is_space t ≡ true in subst P (sym e) refl
+all_space line _ e no_space = rw e refl
 all_space _ rest e (space {b} {text} w h) = rw (is_space_of b w) (all_space text rest e h)
 
 json_line : (line : List ℕ) → OwnLine line → IsJsonLine line

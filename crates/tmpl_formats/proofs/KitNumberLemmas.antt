@@ -1,5 +1,5 @@
 -- A number of the grammar is one by the definitions of `json`.
-use Rattle.std.proofs.Common.{◌≡◌, ◌⊎◌, inl, inr, ℕ, suc, ◌+◌, ◌-◌, ◌==◌, Bool, true, false, cond, ◌||◌, List, [], ◌∷◌, drop, take, length, Option, Some, arith, refl, sym, ◌∙◌, ap, subst}
+use Rattle.std.proofs.Common.{◌≡◌, ◌⊎◌, inl, inr, ℕ, suc, ◌+◌, ◌-◌, ◌==◌, Bool, true, false, cond, ◌||◌, List, [], ◌∷◌, drop, take, length, Option, Some, arith, refl, ◌∙◌, ap}
 use Rattle.std.proofs.lemmas.Grind.{common_steps}
 use Rattle.std.specs.Char.{is_ascii_digit}
 use Rattle.std.specs.List.{prefix_len}
@@ -54,12 +54,12 @@ unsigned_exponent : (text rest : List ℕ) → HasSome text rest → Stops rest 
 unsigned_exponent _ rest (own.some {b} {text} d m) h = rw (no_sign b d) (some_digits (b ∷ text) rest (own.some d m) h)
 
 exponent_at : (b : ℕ) (t rest : List ℕ) → (b ≡ 101) ⊎ (b ≡ 69) → after_digits (after_sign t) ≡ Some rest → after_exponent (b ∷ t) ≡ Some rest
-exponent_at b t rest (inl e) h = let P : ℕ → Type 0 = λ n. after_exponent (n ∷ t) ≡ Some rest in subst P (sym e) h
-exponent_at b t rest (inr e) h = let P : ℕ → Type 0 = λ n. after_exponent (n ∷ t) ≡ Some rest in subst P (sym e) h
+exponent_at b t rest (inl e) h = rw e h
+exponent_at b t rest (inr e) h = rw e h
 
 signed_at : (c : ℕ) (t : List ℕ) → (c ≡ 43) ⊎ (c ≡ 45) → after_sign (c ∷ t) ≡ t
-signed_at c t (inl e) = let P : ℕ → Type 0 = λ n. after_sign (n ∷ t) ≡ t in subst P (sym e) refl
-signed_at c t (inr e) = let P : ℕ → Type 0 = λ n. after_sign (n ∷ t) ≡ t in subst P (sym e) refl
+signed_at c t (inl e) = rw e refl
+signed_at c t (inr e) = rw e refl
 
 exponents : (text rest : List ℕ) → HasExponent text rest → Ends rest → after_exponent text ≡ Some rest
 exponents text _ own.no_exponent h = rw (ends_at (head text) h).no_e refl
@@ -73,8 +73,8 @@ record NoDigit (h : ℕ) : Type 0 where
   no_point : (h == 46) ≡ false
 
 letter_head : (b : ℕ) → (b ≡ 101) ⊎ (b ≡ 69) → NoDigit b
-letter_head b (inl e) = let P : ℕ → Type 0 = λ n. NoDigit n in subst P (sym e) (record { stops = refl; no_point = refl })
-letter_head b (inr e) = let P : ℕ → Type 0 = λ n. NoDigit n in subst P (sym e) (record { stops = refl; no_point = refl })
+letter_head b (inl e) = rw e (record { stops = refl; no_point = refl })
+letter_head b (inr e) = rw e (record { stops = refl; no_point = refl })
 
 exponent_head : (text rest : List ℕ) → HasExponent text rest → Ends rest → NoDigit (head text)
 exponent_head text _ own.no_exponent h = record { stops = (ends_at (head text) h).no_digit; no_point = (ends_at (head text) h).no_dot }
@@ -100,8 +100,7 @@ digit_no_zero b h = grind (arith, common_steps)
 
 wholes : (text rest : List ℕ) → HasUnsigned text rest → Ends rest → from_whole text ≡ Some rest
 wholes _ rest (own.zero {text} f) h = fractions text rest f h
-wholes _ rest (own.whole {b} {text} {more} d n m f) h =
-    rw (digit_no_zero b n, some_digits (b ∷ text) more (own.some d m) (fraction_stops more rest f h)) (fractions more rest f h)
+wholes _ rest (own.whole {b} {text} {more} d n m f) h = rw (digit_no_zero b n, some_digits (b ∷ text) more (own.some d m) (fraction_stops more rest f h)) (fractions more rest f h)
 
 digit_no_minus : (b : ℕ) → is_ascii_digit b ≡ true → (b == 45) ≡ false
 digit_no_minus b d = grind (arith, common_steps)
@@ -115,7 +114,7 @@ unfolding after_number
 numbers text rest (own.positive u) h = rw (unsigned_minus text rest u) (wholes text rest u h)
 numbers _ rest (own.negative {text} u) h = wholes text rest u h
 
--- ---- the token of a number, and the lexer behind it
+-- ---- the token of a number, and the lexer after it
 
 number_of : (t rest : List ℕ) → Ends rest → (s : List ℕ) × (number_before t (Some rest) ≡ kit.number s)
 number_of t rest h = (take (length t - length rest) t, rw h refl)
@@ -184,16 +183,15 @@ no_quote b h = (grind (arith, common_steps), grind (arith, common_steps))
 end_class : (t u : Bool) (x : ℕ) (xs : List ℕ) (k : Mode → List Lexeme) → (t || u) ≡ true
     → lex_byte lexer.in_word (cond t lexer.operator (cond u lexer.space lexer.other)) x xs k
     ≡ lex_byte lexer.between (cond t lexer.operator (cond u lexer.space lexer.other)) x xs k
-end_class true u x xs k h = refl
-end_class false true x xs k h = refl
 end_class false false x xs k h = cc
+end_class _ _ x xs k h = refl
 
 lex_end : (rest : List ℕ) → Ends rest → lex lexer.in_word rest ≡ lex lexer.between rest
 unfolding lex
 lex_end [] h = refl
 lex_end (b ∷ t) h = let x = no_quote b h in rw (x.0, x.1) (end_class (is_operator b) (is_space b) b t (λ next. lex next t) h)
 
--- a token, and the lexer behind it
+-- a token, and the lexer after it
 pub record Lexes (text rest : List ℕ) (is_it : Token → Type 0) : Type 0 where
   pub the_token : Token
   pub fits : is_it the_token

@@ -1,5 +1,5 @@
 -- A string of the grammar is one by the definitions of `json`.
-use Rattle.std.proofs.Common.{◌≡◌, ◌≢◌, ◌<◌, ◌≤◌, ◌⊎◌, inl, ℕ, ◌+◌, ◌*◌, ◌==◌, Bool, true, false, cond, List, [], ◌∷◌, ◌++◌, Option, Some, None, arith, refl, sym, ◌∙◌, ap, subst}
+use Rattle.std.proofs.Common.{◌≡◌, ◌≢◌, ◌<◌, ◌≤◌, ◌⊎◌, inl, ℕ, ◌+◌, ◌*◌, ◌==◌, Bool, true, false, cond, List, [], ◌∷◌, ◌++◌, Option, Some, None, arith, refl, ◌∙◌, ap}
 use Rattle.std.proofs.lemmas.Grind.{common_steps}
 use Rattle.std.specs.Char.{is_digit, digit_value, encode_utf8}
 use Rattle.std.specs.Prelude.{nat_lt, is_some}
@@ -36,7 +36,7 @@ is_hex : (b : ℕ) → hex_value b < 16 → is_digit b 16 ≡ true
 is_hex b h = grind (arith, common_steps)
 
 hex_other : (b : ℕ) → hex_value b < 16 → (b ≢ 34) × (b ≢ 92)
-hex_other b h = (λ e. let P : ℕ → Type 0 = λ n. hex_value n < 16 in let f : 16 < 16 = subst P e h in omega arith, λ e. let P : ℕ → Type 0 = λ n. hex_value n < 16 in let f : 16 < 16 = subst P e h in omega arith)
+hex_other b h = (λ e. let f : 16 < 16 = (rw e at h) in omega arith, λ e. let f : 16 < 16 = (rw e at h) in omega arith)
 
 lex_hex : (b : ℕ) (t : List ℕ) → hex_value b < 16 → lex lexer.in_string (b ∷ t) ≡ lex lexer.in_string t
 lex_hex b t h = lex_inside b t (hex_other b h).0 (hex_other b h).1
@@ -90,8 +90,7 @@ unit_value a b c d = hex_value a * 4096 + hex_value b * 256 + hex_value c * 16 +
 
 code_of : (a b c d : ℕ) → hex_value a < 16 → hex_value b < 16 → hex_value c < 16 → hex_value d < 16 → code_unit a b c d ≡ Some (unit_value a b c d)
 unfolding code_unit
-code_of a b c d ha hb hc hd =
-    rw (is_hex a ha, is_hex b hb, is_hex c hc, is_hex d hd, hex_digit a ha, hex_digit b hb, hex_digit c hc, hex_digit d hd) refl
+code_of a b c d ha hb hc hd = rw (is_hex a ha, is_hex b hb, is_hex c hc, is_hex d hd, hex_digit a ha, hex_digit b hb, hex_digit c hc, hex_digit d hd) refl
 
 not_high : (u : ℕ) → (u < 55296) ⊎ (57344 ≤ u) → is_high_surrogate u ≡ false
 not_high u h = grind (arith, common_steps)
@@ -120,8 +119,7 @@ plain_unit : (a b c d : ℕ) (xs s : List ℕ) → hex_value a < 16 → hex_valu
     → (unit_value a b c d < 55296) ⊎ (57344 ≤ unit_value a b c d) → content kit.plain xs ≡ Some s
     → content kit.after_u (a ∷ b ∷ c ∷ d ∷ xs) ≡ Some (encode_utf8 (unit_value a b c d) ++ s)
 unfolding content
-plain_unit a b c d xs s ha hb hc hd n h =
-    rw (code_of a b c d ha hb hc hd, not_high (unit_value a b c d) n, not_low (unit_value a b c d) n, h) refl
+plain_unit a b c d xs s ha hb hc hd n h = rw (code_of a b c d ha hb hc hd, not_high (unit_value a b c d) n, not_low (unit_value a b c d) n, h) refl
 
 low_unit : (u a b c d : ℕ) (xs s : List ℕ) → hex_value a < 16 → hex_value b < 16 → hex_value c < 16 → hex_value d < 16
     → is_low_surrogate (unit_value a b c d) ≡ true → content kit.plain xs ≡ Some s
@@ -190,7 +188,7 @@ unit_digits _ rest (own.below {b} {c} {text} v w h) =
       range = inl (below_range (hex_value b) (hex_value c) (hex_value x.c) (hex_value x.d) v w x.c_hex x.d_hex);
     }
 
--- what a string comes to: its content, and the lexer behind it
+-- what a string comes to: its content, and the lexer after it
 pub record Reads (text rest : List ℕ) : Type 0 where
   pub content_is : List ℕ
   pub content_of : content kit.plain text ≡ Some content_is
@@ -261,22 +259,18 @@ low_digits _ rest (own.low {b} {c} {text} v l w h) =
     record { a = b; b = c; c = x.c; d = x.d; is = ap (λ t. b ∷ c ∷ t) x.is; a_hex = omega arith; b_hex = w; c_hex = x.c_hex; d_hex = x.d_hex; least = r.0; most = r.1 }
 
 after_unit : (t more rest : List ℕ) → Unit4 t more → Reads more rest → Reads (92 ∷ 117 ∷ t) rest
-after_unit t more rest u r =
-    let P : List ℕ → Type 0 = λ x. Reads (92 ∷ 117 ∷ x) rest in
-    subst P (sym u.is) (record {
-      content_is = encode_utf8 (unit_value u.a u.b u.c u.d) ++ r.content_is;
-      content_of = unit_content _ _ (plain_unit u.a u.b u.c u.d more r.content_is u.a_hex u.b_hex u.c_hex u.d_hex u.range r.content_of);
-      lexed = lex_escape 117 (u.a ∷ u.b ∷ u.c ∷ u.d ∷ more) ∙ (lex_unit u.a u.b u.c u.d more u.a_hex u.b_hex u.c_hex u.d_hex ∙ r.lexed);
-    })
+after_unit t more rest u r = rw u.is (record {
+  content_is = encode_utf8 (unit_value u.a u.b u.c u.d) ++ r.content_is;
+  content_of = unit_content _ _ (plain_unit u.a u.b u.c u.d more r.content_is u.a_hex u.b_hex u.c_hex u.d_hex u.range r.content_of);
+  lexed = lex_escape 117 (u.a ∷ u.b ∷ u.c ∷ u.d ∷ more) ∙ (lex_unit u.a u.b u.c u.d more u.a_hex u.b_hex u.c_hex u.d_hex ∙ r.lexed);
+})
 
 after_pair : (t more most rest : List ℕ) → Pair4 55296 56320 t (92 ∷ 117 ∷ more) → Pair4 56320 57344 more most → Reads most rest → Reads (92 ∷ 117 ∷ t) rest
 after_pair t more most rest u v r =
-    let P : List ℕ → Type 0 = λ x. Reads (92 ∷ 117 ∷ x) rest in
-    let Q : List ℕ → Type 0 = λ x. Reads (92 ∷ 117 ∷ u.a ∷ u.b ∷ u.c ∷ u.d ∷ 92 ∷ 117 ∷ x) rest in
     let tail = v.a ∷ v.b ∷ v.c ∷ v.d ∷ most in
     let one = unit_value u.a u.b u.c u.d in
     let two = unit_value v.a v.b v.c v.d in
-    subst P (sym u.is) (subst Q (sym v.is) (record {
+    rw (u.is, v.is) (record {
       content_is = encode_utf8 (surrogate_pair one two) ++ r.content_is;
       content_of = unit_content _ _
           (high_unit u.a u.b u.c u.d (92 ∷ 117 ∷ tail) (encode_utf8 (surrogate_pair one two) ++ r.content_is) u.a_hex u.b_hex u.c_hex u.d_hex (are_high one u.least u.most)
@@ -284,7 +278,7 @@ after_pair t more most rest u v r =
       lexed = lex_escape 117 (u.a ∷ u.b ∷ u.c ∷ u.d ∷ 92 ∷ 117 ∷ tail)
           ∙ (lex_unit u.a u.b u.c u.d (92 ∷ 117 ∷ tail) u.a_hex u.b_hex u.c_hex u.d_hex
           ∙ (lex_escape 117 tail ∙ (lex_unit v.a v.b v.c v.d most v.a_hex v.b_hex v.c_hex v.d_hex ∙ r.lexed)));
-    }))
+    })
 
 -- a string of the grammar
 pub string_reads : (text rest : List ℕ) → HasString text rest → Reads text rest

@@ -1,12 +1,10 @@
 -- What is JSON by the grammar is read by the definitions of `json`, where no bound of depth is too small.
-use Rattle.std.proofs.Common.{◌≡◌, ◌<◌, ◌≤◌, ℕ, zero, suc, ◌+◌, Bool, true, false, ◌||◌, List, [], ◌∷◌, length, Some, None, arith, refl, sym, ◌∙◌, subst}
+use Rattle.std.proofs.Common.{◌≡◌, ◌<◌, ◌≤◌, ℕ, zero, suc, ◌+◌, Bool, true, false, ◌||◌, List, [], ◌∷◌, length, Some, None, arith, refl, ◌∙◌}
 use Rattle.std.proofs.lemmas.Grind.{common_steps}
 use Rattle.json.specs.Json as tree
 use Rattle.json.specs.Json.{Json, Items, Members, after_end_array, items, members, value}
 use Rattle.json.specs.Lex as lexer
-use Rattle.json.specs.Lex.{lex, class, Lexeme, Place, punctuate, begins_colon, may_begin, place_token, tokens}
-use Rattle.json.specs.Text as kit_text
-use Rattle.json.specs.Text.{content}
+use Rattle.json.specs.Lex.{lex, lex_byte, class, Lexeme, Place, punctuate, begins_colon, may_begin, place_token, tokens}
 use Rattle.json.specs.Token as kit
 use Rattle.json.specs.Token.{Token}
 use Rattle.json.specs.Word.{is_operator, is_space}
@@ -138,10 +136,7 @@ Tokens p text = punctuate p (lex lexer.between text)
 
 placed : (p : Place) (t : Token) (ls : List Lexeme) → punctuate p (lexer.token t ∷ ls) ≡ place_token p t (begins_colon ls) (λ next. punctuate next ls)
 unfolding punctuate
-placed lexer.fresh t ls = refl
-placed lexer.after_value t ls = refl
-placed lexer.after_comma t ls = refl
-placed lexer.after_key t ls = refl
+placed _ t ls = refl
 
 comma_placed : (ls : List Lexeme) → punctuate lexer.after_value (lexer.comma ∷ ls) ≡ punctuate lexer.after_comma ls
 unfolding punctuate
@@ -171,34 +166,10 @@ object_placed p ls m = placed p kit.begin_object ls ∙ rw m refl
 key_placed : (p : Place) (s : List ℕ) (ls : List Lexeme) → may_begin p ≡ true → punctuate p (lexer.token (kit.string s) ∷ lexer.colon ∷ ls) ≡ kit.key s ∷ punctuate lexer.fresh ls
 key_placed p s ls m = placed p (kit.string s) (lexer.colon ∷ ls) ∙ rw (m, colon_placed ls) refl
 
--- a sign before a text
-lex_array : (t : List ℕ) → lex lexer.between (91 ∷ t) ≡ lexer.token kit.begin_array ∷ lex lexer.between t
+-- a byte before a text
+lex_sign : (b : ℕ) (t : List ℕ) → lex lexer.between (b ∷ t) ≡ lex_byte lexer.between (class b) b t (λ next. lex next t)
 unfolding lex
-lex_array t = refl
-
-lex_end_array : (t : List ℕ) → lex lexer.between (93 ∷ t) ≡ lexer.token kit.end_array ∷ lex lexer.between t
-unfolding lex
-lex_end_array t = refl
-
-lex_object : (t : List ℕ) → lex lexer.between (123 ∷ t) ≡ lexer.token kit.begin_object ∷ lex lexer.between t
-unfolding lex
-lex_object t = refl
-
-lex_end_object : (t : List ℕ) → lex lexer.between (125 ∷ t) ≡ lexer.token kit.end_object ∷ lex lexer.between t
-unfolding lex
-lex_end_object t = refl
-
-lex_comma : (t : List ℕ) → lex lexer.between (44 ∷ t) ≡ lexer.comma ∷ lex lexer.between t
-unfolding lex
-lex_comma t = refl
-
-lex_colon : (t : List ℕ) → lex lexer.between (58 ∷ t) ≡ lexer.colon ∷ lex lexer.between t
-unfolding lex
-lex_colon t = refl
-
-lex_quote : (t : List ℕ) → lex lexer.between (34 ∷ t) ≡ lexer.token (lexer.string_token (content kit_text.plain t)) ∷ lex lexer.in_string t
-unfolding lex
-lex_quote t = refl
+lex_sign b t = refl
 
 lex_nothing : lex lexer.between [] ≡ []
 unfolding lex
@@ -237,19 +208,18 @@ follow_ends _ (a_brace t) = refl
 
 no_colon : (t : List ℕ) → Follow t → begins_colon (lex lexer.between t) ≡ false
 no_colon _ nothing = rw lex_nothing refl
-no_colon _ (a_comma t) = rw (lex_comma t) refl
-no_colon _ (a_bracket t) = rw (lex_end_array t) refl
-no_colon _ (a_brace t) = rw (lex_end_object t) refl
+no_colon _ (a_comma t) = rw (lex_sign 44 t) refl
+no_colon _ (a_bracket t) = rw (lex_sign 93 t) refl
+no_colon _ (a_brace t) = rw (lex_sign 125 t) refl
 
 -- a string where a value or a key may begin
 string_lexed : (text rest : List ℕ) (r : Reads text rest) → lex lexer.between (34 ∷ text) ≡ lexer.token (kit.string r.content_is) ∷ lex lexer.between rest
-string_lexed text rest r = lex_quote text ∙ rw (r.content_of, r.lexed) refl
+string_lexed text rest r = lex_sign 34 text ∙ rw (r.content_of, r.lexed) refl
 
 -- a scalar whose token is read
 scalar_value : (p : Place) (text rest : List ℕ) (t : Token) → IsScalar t → lex lexer.between text ≡ lexer.token t ∷ lex lexer.between rest → may_begin p ≡ true
     → begins_colon (lex lexer.between rest) ≡ false → Enough (λ depth. Val depth (Tokens p text) (Tokens lexer.after_value rest))
-scalar_value p text rest t s e m c =
-    (0, λ depth le. rw (e, scalar_placed p t (lex lexer.between rest) s m c) (scalar s))
+scalar_value p text rest t s e m c = (0, λ depth le. rw (e, scalar_placed p t (lex lexer.between rest) s m c) (scalar s))
 
 number_scalar : (t : Token) → IsNumberToken t → IsScalar t
 number_scalar _ (a_number s) = number s
@@ -263,30 +233,29 @@ deeper : (P : ℕ → Type 0) (least : ℕ) → ((depth : ℕ) → least ≤ dep
 deeper P least f = (least + 1, at_depth P least f)
 
 end_array_tokens : (rest : List ℕ) → Tokens lexer.after_value (93 ∷ rest) ≡ kit.end_array ∷ Tokens lexer.after_value rest
-end_array_tokens rest = rw (lex_end_array rest) (placed lexer.after_value kit.end_array (lex lexer.between rest))
+end_array_tokens rest = rw (lex_sign 93 rest) (placed lexer.after_value kit.end_array (lex lexer.between rest))
 
 end_object_tokens : (rest : List ℕ) → Tokens lexer.after_value (125 ∷ rest) ≡ kit.end_object ∷ Tokens lexer.after_value rest
-end_object_tokens rest = rw (lex_end_object rest) (placed lexer.after_value kit.end_object (lex lexer.between rest))
+end_object_tokens rest = rw (lex_sign 125 rest) (placed lexer.after_value kit.end_object (lex lexer.between rest))
 
 comma_tokens : (more : List ℕ) → Tokens lexer.after_value (44 ∷ more) ≡ Tokens lexer.after_comma more
-comma_tokens more = rw (lex_comma more) (comma_placed (lex lexer.between more))
+comma_tokens more = rw (lex_sign 44 more) (comma_placed (lex lexer.between more))
 
 empty_array_tokens : (text rest : List ℕ) → HasSpace text (93 ∷ rest) → Tokens lexer.fresh text ≡ kit.end_array ∷ Tokens lexer.after_value rest
-empty_array_tokens text rest h = rw (lex_space text (93 ∷ rest) h, lex_end_array rest) (placed lexer.fresh kit.end_array (lex lexer.between rest))
+empty_array_tokens text rest h = rw (lex_space text (93 ∷ rest) h, lex_sign 93 rest) (placed lexer.fresh kit.end_array (lex lexer.between rest))
 
 empty_object_tokens : (text rest : List ℕ) → HasSpace text (125 ∷ rest) → Tokens lexer.fresh text ≡ kit.end_object ∷ Tokens lexer.after_value rest
-empty_object_tokens text rest h = rw (lex_space text (125 ∷ rest) h, lex_end_object rest) (placed lexer.fresh kit.end_object (lex lexer.between rest))
+empty_object_tokens text rest h = rw (lex_space text (125 ∷ rest) h, lex_sign 125 rest) (placed lexer.fresh kit.end_object (lex lexer.between rest))
 
 array_tokens : (p : Place) (text : List ℕ) → may_begin p ≡ true → Tokens p (91 ∷ text) ≡ kit.begin_array ∷ Tokens lexer.fresh text
-array_tokens p text m = rw (lex_array text) (array_placed p (lex lexer.between text) m)
+array_tokens p text m = rw (lex_sign 91 text) (array_placed p (lex lexer.between text) m)
 
 object_tokens : (p : Place) (text : List ℕ) → may_begin p ≡ true → Tokens p (123 ∷ text) ≡ kit.begin_object ∷ Tokens lexer.fresh text
-object_tokens p text m = rw (lex_object text) (object_placed p (lex lexer.between text) m)
+object_tokens p text m = rw (lex_sign 123 text) (object_placed p (lex lexer.between text) m)
 
 key_tokens : (p : Place) (text key after value : List ℕ) → HasSpace text (34 ∷ key) → (r : Reads key after) → HasSpace after (58 ∷ value) → may_begin p ≡ true
     → Tokens p text ≡ kit.key r.content_is ∷ Tokens lexer.fresh value
-key_tokens p text key after value h r q m =
-    rw (lex_space text (34 ∷ key) h, string_lexed key after r, lex_space after (58 ∷ value) q, lex_colon value) (key_placed p r.content_is (lex lexer.between value) m)
+key_tokens p text key after value h r q m = rw (lex_space text (34 ∷ key) h, string_lexed key after r, lex_space after (58 ∷ value) q, lex_sign 58 value) (key_placed p r.content_is (lex lexer.between value) m)
 
 array_val : (p : Place) (text rest : List ℕ) → may_begin p ≡ true → Enough (λ depth. Its depth (Tokens lexer.fresh text) (Tokens lexer.after_value rest))
     → Enough (λ depth. Val depth (Tokens p (91 ∷ text)) (Tokens lexer.after_value rest))
@@ -303,9 +272,7 @@ spaced : (p : Place) (text value after rest : List ℕ) → HasSpace text value 
 spaced p text value after rest s q v = (
   v.0,
   λ depth le.
-      let P : List Lexeme → Type 0 = λ ls. Val depth (punctuate p ls) (Tokens lexer.after_value rest) in
-      let Q : List Lexeme → Type 0 = λ ls. Val depth (Tokens p value) (punctuate lexer.after_value ls) in
-      subst P (sym (lex_space text value s)) (subst Q (lex_space after rest q) (v.1 depth le)),
+      rw (lex_space text value s, ← lex_space after rest q) (v.1 depth le),
 )
 
 last_of_items : (p : Place) (text rest : List ℕ) → Enough (λ depth. Val depth (Tokens p text) (Tokens lexer.after_value (93 ∷ rest)))
@@ -314,8 +281,7 @@ last_of_items p text rest v = (v.0, λ depth le. its_more (v.1 depth le) (rw (en
 
 more_of_items : (p : Place) (text more rest : List ℕ) → Enough (λ depth. Val depth (Tokens p text) (Tokens lexer.after_value (44 ∷ more)))
     → Enough (λ depth. Its depth (Tokens lexer.after_comma more) (Tokens lexer.after_value rest)) → Enough (λ depth. Its depth (Tokens p text) (Tokens lexer.after_value rest))
-more_of_items p text more rest v i =
-    (v.0 + i.0, λ depth le. its_more (v.1 depth (omega arith)) (rw (comma_tokens more) (i.1 depth (omega arith))))
+more_of_items p text more rest v i = (v.0 + i.0, λ depth le. its_more (v.1 depth (omega arith)) (rw (comma_tokens more) (i.1 depth (omega arith))))
 
 last_of_members : (p : Place) (text value rest : List ℕ) (s : List ℕ) → Tokens p text ≡ kit.key s ∷ Tokens lexer.fresh value
     → Enough (λ depth. Val depth (Tokens lexer.fresh value) (Tokens lexer.after_value (125 ∷ rest)))
@@ -352,20 +318,16 @@ mutual
   items_tokens : (p : Place) (text end rest : List ℕ) → end ≡ 93 ∷ rest → HasItems text end → may_begin p ≡ true
       → Enough (λ depth. Its depth (Tokens p text) (Tokens lexer.after_value rest))
   items_tokens p text end rest e (own.last_item x) m =
-      let F : List ℕ → Type 0 = λ t. Follow t in
-      let V : List ℕ → Type 0 = λ t. Enough (λ depth. Val depth (Tokens p text) (Tokens lexer.after_value t)) in
-      last_of_items p text rest (subst V e (element_tokens p text end x (subst F (sym e) (a_bracket rest)) m))
+      last_of_items p text rest (rw e at (element_tokens p text end x (rw (← e) at (a_bracket rest)) m))
   items_tokens p text end rest e (own.more_items {more = more} x i) m =
       more_of_items p text more rest (element_tokens p text (44 ∷ more) x (a_comma more) m) (items_tokens lexer.after_comma more end rest e i refl)
 
   members_tokens : (p : Place) (text end rest : List ℕ) → end ≡ 125 ∷ rest → HasMembers text end → may_begin p ≡ true
       → Enough (λ depth. Mems depth (Tokens p text) (Tokens lexer.after_value rest))
   members_tokens p text end rest e (own.last_member (own.member {key = key} {after = after} {value = value} s k q x)) m =
-      let F : List ℕ → Type 0 = λ t. Follow t in
-      let V : List ℕ → Type 0 = λ t. Enough (λ depth. Val depth (Tokens lexer.fresh value) (Tokens lexer.after_value t)) in
       let r = string_reads key after k in
       last_of_members p text value rest r.content_is (key_tokens p text key after value s r q m)
-      (subst V e (element_tokens lexer.fresh value end x (subst F (sym e) (a_brace rest)) refl))
+      (rw e at (element_tokens lexer.fresh value end x (rw (← e) at (a_brace rest)) refl))
   members_tokens p text end rest e (own.more_members {more = more} (own.member {key = key} {after = after} {value = value} s k q x) i) m =
       let r = string_reads key after k in
       more_of_members p text value more rest r.content_is (key_tokens p text key after value s r q m)
@@ -375,7 +337,6 @@ mutual
 pub json_read : (text : List ℕ) → IsElement text → IsJson text
 json_read text h =
     let v = element_tokens lexer.fresh text [] h nothing refl in
-    let P : List Token → Type 0 = λ ts. Val v.0 (tokens text) ts in
     let at_end : Tokens lexer.after_value [] ≡ [] = rw lex_nothing end_placed in
-    let found = val_reads v.0 (tokens text) [] (subst P at_end (v.1 v.0 (omega arith))) in
+    let found = val_reads v.0 (tokens text) [] (rw at_end at (v.1 v.0 (omega arith))) in
     (found.0, (v.0, found.1))

@@ -1,5 +1,5 @@
 -- Lines are gone over byte by byte.
-use Rattle.std.proofs.Common.{◌≡◌, ◌≢◌, ◌≤◌, ◌<◌, ◌+◌, ◌-◌, ◌==◌, ℕ, Bool, true, false, cond, List, [], ◌∷◌, ◌++◌, length, take, drop, get_or, Option, Some, None, refl, ap, sym, ◌∙◌, subst, arith, length-drop}
+use Rattle.std.proofs.Common.{◌≡◌, ◌≢◌, ◌≤◌, ◌<◌, ◌+◌, ◌-◌, ◌==◌, ℕ, Bool, true, false, cond, List, [], ◌∷◌, ◌++◌, length, take, drop, get_or, Option, Some, None, refl, ap, sym, ◌∙◌, arith, length-drop}
 use Rattle.std.proofs.lemmas.Grind.{common_steps}
 use Rattle.std.proofs.lemmas.List.{at_drop_more, at_drop_all, take_more, get_or-drop, take_all, length-take-le}
 use Rattle.std.proofs.lemmas.Str.{IsUtf8-from_is_utf8, is_utf8-from_IsUtf8}
@@ -9,7 +9,7 @@ use Rattle.tmpl_formats.proofs.PatternLinesLemmas.{line_within}
 use Rattle.tmpl_formats.proofs.PatternSearchLemmas.{finds_so, finds_back}
 use Rattle.tmpl_formats.specs.Pattern.{Finds}
 use Rattle.tmpl_formats.specs.computed.Format.{utf8_mistake}
-use Rattle.tmpl_formats.specs.computed.Lines.{line_fault, or_behind, last_fault, faults, lines_mistake}
+use Rattle.tmpl_formats.specs.computed.Lines.{line_fault, or_later, last_fault, faults, lines_mistake}
 use Rattle.tmpl_formats.specs.computed.PatternMarks.{begun, finds}
 use Rattle.tmpl_formats.specs.PatternView.{Marks, plain}
 
@@ -26,15 +26,12 @@ fault_of : (t : Marks) (line : List ℕ) (found : Bool) → is_utf8 line ≡ tru
 fault_of t line found u e = rw (u, e) refl
 
 pub good_line : (t : Marks) (line text : List ℕ) (r : Bool) → text ≡ line → IsUtf8 line → r ≡ true → IsTrue r ↔ Finds (plain t) (chars text) → None ≡ line_fault t line
-good_line t line text r same u e both =
-    let P : List ℕ → Type 0 = λ s. Finds (plain t) (chars s) in
-    fault_of t line true (is_utf8-from_IsUtf8 line u) (finds_back t (chars line) (subst P same (both.0 e)))
+good_line t line text r same u e both = fault_of t line true (is_utf8-from_IsUtf8 line u) (finds_back t (chars line) (rw same at (both.0 e)))
 
 pub no_match : (t : Marks) (line text : List ℕ) (r : Bool) → text ≡ line → IsUtf8 line → r ≡ false → IsTrue r ↔ Finds (plain t) (chars text) → Some 0 ≡ line_fault t line
 no_match t line text r same u e both =
-    let P : List ℕ → Type 0 = λ s. Finds (plain t) (chars s) in
     fault_of t line false (is_utf8-from_IsUtf8 line u)
-    (not_true (finds (begun t) (chars line)) (λ h. let yes = both.1 (subst P (sym same) (finds_so t (chars line) h)) in let no : r ≡ false = e in absurd (cc)))
+    (not_true (finds (begun t) (chars line)) (λ h. let yes = both.1 (rw (← same) at (finds_so t (chars line) h)) in let no : r ≡ false = e in absurd (cc)))
 
 -- ---- all lines
 
@@ -53,7 +50,7 @@ faults_other : (t : Marks) (line rest : List ℕ) (b : ℕ) → b ≢ 10 → fau
 unfolding faults
 faults_other t line rest b h = rw (not_newline b h) refl
 
-faults_newline : (t : Marks) (line rest : List ℕ) (b : ℕ) → b ≡ 10 → faults t line (b ∷ rest) ≡ or_behind (line_fault t line) (length line) (faults t [] rest)
+faults_newline : (t : Marks) (line rest : List ℕ) (b : ℕ) → b ≡ 10 → faults t line (b ∷ rest) ≡ or_later (line_fault t line) (length line) (faults t [] rest)
 unfolding faults
 faults_newline t line rest b h = rw (is_newline b h) refl
 
@@ -78,7 +75,7 @@ line-goes_on t text start offset lt at other =
 
 -- a newline
 at_newline : (t : Marks) (text : List ℕ) (start offset : ℕ) → offset < length text → IsAtLine t text start offset → get_or text offset 0 ≡ 10
-    → option_map (λ n. start + n) (or_behind (line_fault t (take (offset - start) (drop start text))) (length (take (offset - start) (drop start text))) (faults t [] (drop (offset + 1) text)))
+    → option_map (λ n. start + n) (or_later (line_fault t (take (offset - start) (drop start text))) (length (take (offset - start) (drop start text))) (faults t [] (drop (offset + 1) text)))
     ≡ lines_mistake t text
 at_newline t text start offset lt at newline =
     let line = take (offset - start) (drop start text) in
@@ -89,9 +86,9 @@ pub line-refused : (t : Marks) (text : List ℕ) (start offset n : ℕ) → offs
     → Some n ≡ line_fault t (take (offset - start) (drop start text)) → Some (start + n) ≡ lines_mistake t text
 line-refused t text start offset n lt at newline e = rw (← e) at (at_newline t text start offset lt at newline)
 
-behind : (r : Option ℕ) (start k next : ℕ) → start + k + 1 ≡ next → option_map (λ n. next + n) r ≡ option_map (λ n. start + n) (option_map (λ n. k + 1 + n) r)
-behind None start k next e = refl
-behind (Some n) start k next e = let f : next + n ≡ start + (k + 1 + n) = omega arith in ap Some f
+from_next : (r : Option ℕ) (start k next : ℕ) → start + k + 1 ≡ next → option_map (λ n. next + n) r ≡ option_map (λ n. start + n) (option_map (λ n. k + 1 + n) r)
+from_next None start k next e = refl
+from_next (Some n) start k next e = let f : next + n ≡ start + (k + 1 + n) = omega arith in ap Some f
 
 no_line_yet : (n : ℕ) (xs : List ℕ) → take (n - n) xs ≡ []
 no_line_yet n xs = let e : n - n ≡ 0 = omega arith in ap (λ k. take k xs) e
@@ -105,7 +102,7 @@ line-next t text start offset lt at newline e =
     let long : length line ≡ offset - start = length-take-le (offset - start) (drop start text) (omega (arith, length-drop start text)) in
     let next : start + length line + 1 ≡ offset + 1 = omega arith in
     let h = rw (← e) at (at_newline t text start offset lt at newline) in
-    record { before = omega arith; same = ap (λ l. option_map (λ n. offset + 1 + n) (faults t l rest)) (no_line_yet (offset + 1) (drop (offset + 1) text)) ∙ (behind (faults t [] rest) start (length line) (offset + 1) next ∙ h) }
+    record { before = omega arith; same = ap (λ l. option_map (λ n. offset + 1 + n) (faults t l rest)) (no_line_yet (offset + 1) (drop (offset + 1) text)) ∙ (from_next (faults t [] rest) start (length line) (offset + 1) next ∙ h) }
 
 -- the end of the text
 faults_end : (t : Marks) (line : List ℕ) → faults t line [] ≡ last_fault t line
@@ -127,8 +124,7 @@ no_bytes (x ∷ xs) e = absurd (omega arith)
 
 pub text-ends : (t : Marks) (text : List ℕ) (start offset : ℕ) → offset ≡ length text → IsAtLine t text start offset → start ≡ length text → None ≡ lines_mistake t text
 text-ends t text start offset is at e =
-    let empty = no_bytes (drop start text) (omega (arith, length-drop start text)) in
-    rw empty at (at_end t text start offset is at)
+    let empty = no_bytes (drop start text) (omega (arith, length-drop start text)) in rw empty at (at_end t text start offset is at)
 
 all_left : (text : List ℕ) (start : ℕ) → take (length text - start) (drop start text) ≡ drop start text
 all_left text start = take_all (length text - start) (drop start text) (omega (arith, length-drop start text))
@@ -151,5 +147,4 @@ place-fits t line n e = line_within t line n (sym e)
 
 pub last-fits : (t : Marks) (text : List ℕ) (start n : ℕ) → start ≤ length text → Some n ≡ line_fault t (take (length text - start) (drop start text)) → start + n ≤ length text
 last-fits t text start n le e =
-    let fits = place-fits t (drop start text) n (e ∙ ap (line_fault t) (all_left text start)) in
-    omega (arith, length-drop start text)
+    let fits = place-fits t (drop start text) n (e ∙ ap (line_fault t) (all_left text start)) in omega (arith, length-drop start text)

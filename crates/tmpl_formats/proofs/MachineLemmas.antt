@@ -1,9 +1,16 @@
 -- Runs of machines.
-use Rattle.std.proofs.Common.{◌≡◌, ◌+◌, ◌<◌, ◌≤◌, ℕ, Bool, true, false, cond, List, [], ◌∷◌, length, drop, get_or, Option, Some, None, refl, ap, sym, ◌∙◌, subst, arith, add-one, take, ◌++◌}
+use Rattle.std.proofs.Common.{◌≡◌, ◌+◌, ◌<◌, ◌≤◌, ℕ, Bool, true, false, cond, List, [], ◌∷◌, length, drop, get_or, Option, Some, None, refl, ap, sym, ◌∙◌, arith, add-one, take, ◌++◌}
 use Rattle.std.specs.Prelude.{option_map}
 use Rattle.std.proofs.Math.Seq.{drop-cons, drop-length}
 use Rattle.std.specs.List.{list_all}
 use Rattle.tmpl_formats.specs.computed.Machine.{after_step, mistake}
+
+-- one thing and then another
+pub data Then (P : List ℕ → List ℕ → Type 0) (Q : List ℕ → Type 0) : List ℕ → Type 0 where
+  both : {text rest : List ℕ} → P text rest → Q rest → Then P Q text
+
+pub then_map : {P R : List ℕ → List ℕ → Type 0} {Q : List ℕ → Type 0} {text more : List ℕ} → Then P Q text → ((rest : List ℕ) → P text rest → R more rest) → Then R Q more
+then_map (both {rest} p q) f = both (f rest p) q
 
 -- a step that leads to an accepted rest
 went_on : {C : Type 0} (r : Option ℕ) (c : C) → after_step (λ (x : C). r) (Some c) ≡ None → r ≡ None
@@ -29,8 +36,7 @@ shift (Some n) count = let e : count + 1 + n ≡ count + (n + 1) = omega arith i
 before_byte : {C : Type 0} (step : C → ℕ → Option C) (ends : C → Bool) (text : List ℕ) (count : ℕ) (c : C) → count < length text
     → mistake step ends c (drop count text) ≡ after_step (λ d. mistake step ends d (drop (count + 1) text)) (step c (get_or text count 0))
 unfolding mistake
-before_byte step ends text count c lt =
-    rw (add-one, drop-cons text count 0) refl
+before_byte step ends text count c lt = rw (add-one, drop-cons text count 0) refl
 
 pub stepped : {C : Type 0} (step : C → ℕ → Option C) (ends : C → Bool) (start : C) (text : List ℕ) (count : ℕ) (c d : C) → count < length text
     → IsAt step ends start text count c → step c (get_or text count 0) ≡ Some d → IsAt step ends start text (count + 1) d
@@ -54,16 +60,13 @@ at_end step ends start text c at = rw (drop-length text) at at.same
 
 pub ended : {C : Type 0} (step : C → ℕ → Option C) (ends : C → Bool) (start : C) (text : List ℕ) (count : ℕ) (c : C) → count ≡ length text
     → IsAt step ends start text count c → ends c ≡ true → None ≡ mistake step ends start text
-ended step ends start text count c is at e =
-    let P : ℕ → Type 0 = λ n. IsAt step ends start text n c in
-    rw e at (at_end step ends start text c (subst P is at))
+ended step ends start text count c is at e = rw e at (at_end step ends start text c (rw is at at))
 
 pub cut_short : {C : Type 0} (step : C → ℕ → Option C) (ends : C → Bool) (start : C) (text : List ℕ) (count : ℕ) (c : C) → count ≡ length text
     → IsAt step ends start text count c → ends c ≡ false → Some (length text) ≡ mistake step ends start text
 cut_short step ends start text count c is at e =
-    let P : ℕ → Type 0 = λ n. IsAt step ends start text n c in
     let here : Some (length text) ≡ Some (length text + 0) = ap Some (let e : length text ≡ length text + 0 = omega arith in e) in
-    here ∙ rw e at (at_end step ends start text c (subst P is at))
+    here ∙ rw e at (at_end step ends start text c (rw is at at))
 
 later_within : (r : Option ℕ) (most : ℕ) → ((n : ℕ) → r ≡ Some n → n ≤ most) → (n : ℕ) → option_map (λ n. n + 1) r ≡ Some n → n ≤ most + 1
 later_within None most h n e = cc
@@ -105,9 +108,8 @@ pub mistake-same : {C : Type 0} (step : C → ℕ → Option C) (ends : C → Bo
     → mistake step ends c (take (n + 1) text ++ more) ≡ Some n
 unfolding mistake
 mistake-same step ends [] more c n e lt = absurd (omega arith)
-mistake-same step ends (b ∷ text) more c n e lt =
-    rw add-one
+mistake-same step ends (b ∷ text) more c n e lt = rw add-one
     (after_same (λ d. mistake step ends d text) (λ d. mistake step ends d (take n text ++ more)) (step c b) n (length text)
     (λ d m same below is.
-    let P : ℕ → Type 0 = λ k. mistake step ends d (take k text ++ more) ≡ Some m in subst P is (mistake-same step ends text more d m same below))
+    rw (← is) (mistake-same step ends text more d m same below))
     e (omega arith))

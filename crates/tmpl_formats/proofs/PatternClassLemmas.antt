@@ -1,5 +1,5 @@
 -- Classes of regular expressions.
-use Rattle.std.proofs.Common.{◌≡◌, ℕ, Bool, true, false, List, [], ◌∷◌, ◌++◌, refl, ap, sym, ◌∙◌, subst, append_assoc}
+use Rattle.std.proofs.Common.{◌≡◌, ℕ, Bool, true, false, List, [], ◌∷◌, ◌++◌, refl, ap, sym, ◌∙◌, append_assoc}
 use Rattle.tmpl_formats.specs.Pattern as tree
 use Rattle.tmpl_formats.specs.PatternText.{HasItem, HasItems, no_item, item, begins_with, HasAtom, class, negated_class}
 use Rattle.tmpl_formats.specs.declared.pattern.Span.{Span}
@@ -13,20 +13,12 @@ abbrev Open : List ℕ → List ℕ → List Span → Type 0
 Open text left spans = (others : List Span) (rest : List ℕ) → HasItems left others rest → HasItems text (spans ++ others) rest
 
 pub items-more : (text before left next : List ℕ) (spans more items : List Span) → Open text before spans → left ≡ before → more ≡ spans ++ items → HasItem left items next → Open text next more
-items-more text before left next spans more items known same is h others rest t =
-    let P : List ℕ → Type 0 = λ s. HasItem s items next in
-    let Q : List Span → Type 0 = λ ss. HasItems text ss rest in
-    subst Q (sym (append_assoc spans items others) ∙ ap (λ ss. ss ++ others) (sym is)) (known (items ++ others) rest (item (subst P same h) t))
+items-more text before left next spans more items known same is h others rest t = rw (← (sym (append_assoc spans items others) ∙ ap (λ ss. ss ++ others) (sym is))) (known (items ++ others) rest (item (rw same at h) t))
 
 pub items-end : (text left next : List ℕ) (spans : List Span) → Open text left spans → left ≡ 93 ∷ next → HasItems text spans (93 ∷ next)
-items-end text left next spans known e =
-    let P : List ℕ → Type 0 = λ s. HasItems s [] (93 ∷ next) in
-    let Q : List Span → Type 0 = λ ss. HasItems text ss (93 ∷ next) in
-    subst Q (append_nil spans) (known [] (93 ∷ next) (subst P (sym e) no_item))
+items-end text left next spans known e = rw (← append_nil spans) (known [] (93 ∷ next) (rw e no_item))
 
 pub class_of : (is_negated : Bool) (text mid rest : List ℕ) (spans : List Span) → (is_negated ≡ true → text ≡ 94 ∷ mid) → (is_negated ≡ false → mid ≡ text) → is_negated ≡ begins_with 94 text
     → HasItems mid spans (93 ∷ rest) → HasAtom (91 ∷ text) (tree.One is_negated spans) rest
-class_of true text mid rest spans taken kept begins h =
-    let P : List ℕ → Type 0 = λ t. HasAtom (91 ∷ t) (tree.One true spans) rest in subst P (sym (taken refl)) (negated_class h)
-class_of false text mid rest spans taken kept begins h =
-    let P : List ℕ → Type 0 = λ t. HasItems t spans (93 ∷ rest) in class (sym begins) (subst P (kept refl) h)
+class_of true text mid rest spans taken kept begins h = rw (taken refl) (negated_class h)
+class_of false text mid rest spans taken kept begins h = class (sym begins) (rw (kept refl) at h)

@@ -61,11 +61,10 @@ grow_turns has grows (suc n) some more f b s h = grows (Rounds has some n) (Roun
 grow : (p : Tree) → Grows (Leads p)
 grow tree.Empty some more f b s h = f b s h
 grow (tree.One is_negated spans) some more f b s h = (h.0, h.1, h.2, h.3, f _ _ h.4)
-grow tree.Begin some more f b s h = (h.0, f b s h.1)
-grow tree.End some more f b s h = (h.0, f b s h.1)
 grow (tree.Both x y) some more f b s h = grow x (Leads y some) (Leads y more) (grow y some more f) b s h
 grow (tree.Either x y) some more f b s h = case_of h (λ g. inl (grow x some more f b s g)) (λ g. inr (grow y some more f b s g))
 grow (tree.Many x) some more f b s h = (h.0, grow_turns (Leads x) (grow x) h.0 some more f b s h.1)
+grow _ some more f b s h = (h.0, f b s h.1)
 
 abbrev AnyOf : (ℕ → Place) → Place
 AnyOf each b s = (n : ℕ) × each n b s
@@ -81,11 +80,10 @@ pick_turns has grows picks (suc m) each b s h =
 pick : (p : Tree) → Picks (Leads p)
 pick tree.Empty each b s h = h
 pick (tree.One is_negated spans) each b s h = (h.4.0, (h.0, h.1, h.2, h.3, h.4.1))
-pick tree.Begin each b s h = (h.1.0, (h.0, h.1.1))
-pick tree.End each b s h = (h.1.0, (h.0, h.1.1))
 pick (tree.Both x y) each b s h = pick x (λ n. Leads y (each n)) b s (grow x (Leads y (AnyOf each)) (AnyOf (λ n. Leads y (each n))) (pick y each) b s h)
 pick (tree.Either x y) each b s h = case_of h (λ g. let r = pick x each b s g in (r.0, inl r.1)) (λ g. let r = pick y each b s g in (r.0, inr r.1))
 pick (tree.Many x) each b s h = let r = pick_turns (Leads x) (grow x) (pick x) h.0 each b s h.1 in (r.0, (h.0, r.1))
+pick _ each b s h = (h.1.0, (h.0, h.1.1))
 
 -- one turn more
 turn_more : (x : Tree) (next : Place) (b s : List ℕ) → Leads x (Leads (tree.Many x) next) b s → Leads (tree.Many x) next b s
@@ -165,12 +163,11 @@ kept-shifted first c End e = tt
 kept-shifted first c (Both x y) e = (kept-shifted first c x e, kept-shifted first c y (passes first x e))
 kept-shifted first c (Either x y) e = (kept-shifted first c x e, kept-shifted first c y e)
 kept-shifted first c (Many x ended) e =
-    let into = e || (ended && not first) in
-    (and_true (passes false (shifted first c x into) false), kept-shifted first c x into)
+    let into = e || (ended && not first) in (and_true (passes false (shifted first c x into) false), kept-shifted first c x into)
 
 -- ---- a character is read
 
--- behind a character: from a mark, or nothing was read
+-- after a character: from a mark, or nothing was read
 abbrev pub Went : Marks → Bool → Place → (b : List ℕ) (c : ℕ) (s : List ℕ) → Type 0
 Went t e next b c s = Rest (shifted (is_nil b) c t e) next (b ++ c ∷ []) s ⊎ ((passes (is_nil b) t e ≡ true) × next b (c ∷ s))
 

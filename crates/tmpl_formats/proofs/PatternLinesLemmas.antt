@@ -1,5 +1,5 @@
 -- Lines without a fault have a match.
-use Rattle.std.proofs.Common.{◌≡◌, ◌≤◌, ◌+◌, ◌==◌, ℕ, Bool, true, false, cond, List, [], ◌∷◌, ◌++◌, length, Option, Some, None, refl, ap, sym, subst, arith, append_assoc, length-append}
+use Rattle.std.proofs.Common.{◌≡◌, ◌≤◌, ◌+◌, ◌==◌, ℕ, Bool, true, false, cond, List, [], ◌∷◌, ◌++◌, length, Option, Some, None, refl, ap, arith, append_assoc, length-append}
 use Rattle.std.proofs.lemmas.Grind.{common_steps}
 use Rattle.std.proofs.lemmas.Str.{utf8_valid_len_le}
 use Rattle.std.specs.Prelude.{not, ◌&&◌}
@@ -10,22 +10,20 @@ use Rattle.tmpl_formats.proofs.PatternPlaces.{append_nil}
 use Rattle.tmpl_formats.proofs.PatternSearchLemmas.{finds_so}
 use Rattle.tmpl_formats.specs.Pattern.{Finds}
 use Rattle.tmpl_formats.specs.PatternLines.{is_inside, HaveMatch, no_line, last_line, more_lines}
-use Rattle.tmpl_formats.specs.computed.Lines.{line_fault, or_behind, last_fault, faults, lines_mistake}
+use Rattle.tmpl_formats.specs.computed.Lines.{line_fault, or_later, last_fault, faults, lines_mistake}
 use Rattle.tmpl_formats.specs.computed.PatternMarks.{begun, finds}
 use Rattle.tmpl_formats.specs.PatternView.{Marks, plain}
 
 fine_cases : (u f : Bool) (n : ℕ) → cond u (cond {A = Option ℕ} f None (Some 0)) (Some n) ≡ None → f ≡ true
 fine_cases true true n h = refl
-fine_cases true false n h = cc
-fine_cases false f n h = cc
+fine_cases _ _ n h = cc
 
 fine : (t : Marks) (line : List ℕ) → line_fault t line ≡ None → Finds (plain t) (chars line)
 fine t line h = finds_so t (chars line) (fine_cases (is_utf8 line) (finds (begun t) (chars line)) (utf8_valid_len line) h)
 
-no_fault : (m : Option ℕ) (n : ℕ) (r : Option ℕ) → or_behind m n r ≡ None → (m ≡ None) × (r ≡ None)
+no_fault : (m : Option ℕ) (n : ℕ) (r : Option ℕ) → or_later m n r ≡ None → (m ≡ None) × (r ≡ None)
 no_fault None n None h = (refl, refl)
-no_fault None n (Some k) h = cc
-no_fault (Some m) n r h = cc
+no_fault _ n _ h = cc
 
 all_split : (a b c : Bool) → (a && b) ≡ true → (b ≡ true → c ≡ true) → (a && c) ≡ true
 all_split true b c h f = f h
@@ -43,24 +41,19 @@ equal_of : (m n : ℕ) → (m == n) ≡ true → m ≡ n
 equal_of m n = grind (arith, common_steps)
 
 newline_match : (t : Marks) (line text : List ℕ) → list_all is_inside line ≡ true → Finds (plain t) (chars line) → HaveMatch (plain t) text → HaveMatch (plain t) (line ++ 10 ∷ text)
-newline_match t line text inside found rest =
-    let P : List ℕ → Type 0 = λ s. HaveMatch (plain t) s in
-    subst P (append_assoc line (10 ∷ []) text) (more_lines line text inside found rest)
+newline_match t line text inside found rest = rw (← append_assoc line (10 ∷ []) text) (more_lines line text inside found rest)
 
 at_byte : (e : Bool) (t : Marks) (b : ℕ) (text line : List ℕ) → ((line : List ℕ) → list_all is_inside line ≡ true → faults t line text ≡ None → HaveMatch (plain t) (line ++ text))
     → (b == 10) ≡ e → list_all is_inside line ≡ true
-    → cond e (or_behind (line_fault t line) (length line) (faults t [] text)) (faults t (line ++ b ∷ []) text) ≡ None → HaveMatch (plain t) (line ++ b ∷ text)
+    → cond e (or_later (line_fault t line) (length line) (faults t [] text)) (faults t (line ++ b ∷ []) text) ≡ None → HaveMatch (plain t) (line ++ b ∷ text)
 at_byte true t b text line known e inside h =
     let both = no_fault (line_fault t line) (length line) (faults t [] text) h in
-    let P : ℕ → Type 0 = λ n. HaveMatch (plain t) (line ++ n ∷ text) in
-    subst P (sym (equal_of b 10 e)) (newline_match t line text inside (fine t line both.0) (known [] refl both.1))
-at_byte false t b text line known e inside h =
-    let P : List ℕ → Type 0 = λ s. HaveMatch (plain t) s in
-    subst P (append_assoc line (b ∷ []) text) (known (line ++ b ∷ []) (all_push is_inside line b inside (ap not e)) h)
+    rw (equal_of b 10 e) (newline_match t line text inside (fine t line both.0) (known [] refl both.1))
+at_byte false t b text line known e inside h = rw (← append_assoc line (b ∷ []) text) (known (line ++ b ∷ []) (all_push is_inside line b inside (ap not e)) h)
 
 lines_fine : (t : Marks) (text line : List ℕ) → list_all is_inside line ≡ true → faults t line text ≡ None → HaveMatch (plain t) (line ++ text)
 unfolding faults
-lines_fine t [] line inside h = let P : List ℕ → Type 0 = λ s. HaveMatch (plain t) s in subst P (sym (append_nil line)) (where_last t line inside h)
+lines_fine t [] line inside h = rw (append_nil line) (where_last t line inside h)
 lines_fine t (b ∷ text) line inside h = at_byte (b == 10) t b text line (lines_fine t text) refl inside h
 
 -- what is not refused has lines with a match
@@ -81,15 +74,15 @@ last_within : (t : Marks) (line : List ℕ) (n : ℕ) → last_fault t line ≡ 
 last_within t [] n h = cc
 last_within t (b ∷ line) n h = line_within t (b ∷ line) n h
 
-behind_within : (m : Option ℕ) (k : ℕ) (r : Option ℕ) (more n : ℕ) → ((n : ℕ) → m ≡ Some n → n ≤ k) → ((n : ℕ) → r ≡ Some n → n ≤ more) → or_behind m k r ≡ Some n → n ≤ k + (more + 1)
-behind_within (Some m) k r more n f g h = let e : m ≡ n = cc in let le = f m refl in omega arith
-behind_within None k None more n f g h = cc
-behind_within None k (Some r) more n f g h = let e : k + 1 + r ≡ n = cc in let le = g r refl in omega arith
+later_within : (m : Option ℕ) (k : ℕ) (r : Option ℕ) (more n : ℕ) → ((n : ℕ) → m ≡ Some n → n ≤ k) → ((n : ℕ) → r ≡ Some n → n ≤ more) → or_later m k r ≡ Some n → n ≤ k + (more + 1)
+later_within (Some m) k r more n f g h = let e : m ≡ n = cc in let le = f m refl in omega arith
+later_within None k None more n f g h = cc
+later_within None k (Some r) more n f g h = let e : k + 1 + r ≡ n = cc in let le = g r refl in omega arith
 
 byte_within : (e : Bool) (t : Marks) (b : ℕ) (text line : List ℕ) (n : ℕ) → ((line : List ℕ) (n : ℕ) → faults t line text ≡ Some n → n ≤ length line + length text)
-    → cond e (or_behind (line_fault t line) (length line) (faults t [] text)) (faults t (line ++ b ∷ []) text) ≡ Some n → n ≤ length line + (length text + 1)
+    → cond e (or_later (line_fault t line) (length line) (faults t [] text)) (faults t (line ++ b ∷ []) text) ≡ Some n → n ≤ length line + (length text + 1)
 byte_within true t b text line n known h =
-    behind_within (line_fault t line) (length line) (faults t [] text) (length text) n (line_within t line) (λ n k. let le = known [] n k in omega arith) h
+    later_within (line_fault t line) (length line) (faults t [] text) (length text) n (line_within t line) (λ n k. let le = known [] n k in omega arith) h
 byte_within false t b text line n known h = let le = known (line ++ b ∷ []) n h in omega (arith, length-append line (b ∷ []))
 
 faults_within : (t : Marks) (text line : List ℕ) (n : ℕ) → faults t line text ≡ Some n → n ≤ length line + length text

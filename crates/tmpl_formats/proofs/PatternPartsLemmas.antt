@@ -1,5 +1,5 @@
 -- Repetitions and rows of parts of regular expressions.
-use Rattle.std.proofs.Common.{◌≡◌, ◌≤◌, ◌+◌, ◌-◌, ℕ, Bool, true, false, List, [], ◌∷◌, ◌++◌, length, Option, Some, None, refl, ap, sym, ◌∙◌, subst, arith}
+use Rattle.std.proofs.Common.{◌≡◌, ◌≤◌, ◌+◌, ◌-◌, ℕ, Bool, true, false, List, [], ◌∷◌, ◌++◌, length, Option, Some, None, refl, ap, ◌∙◌, arith}
 use Rattle.std.specs.Prelude.{IfSome}
 use Rattle.tmpl_formats.specs.Pattern as tree
 use Rattle.tmpl_formats.specs.Pattern.{Tree}
@@ -11,53 +11,36 @@ use Rattle.tmpl_formats.specs.declared.pattern.Node.{Node}
 -- ---- repetitions
 
 pub no_turn : (turn : Tree) (n : ℕ) → n ≡ 0 → IsRepeated turn n (Some n) tree.Empty
-no_turn turn n e = let P : ℕ → Type 0 = λ k. IsRepeated turn k (Some k) tree.Empty in subst P (sym e) none
+no_turn turn n e = rw e none
 
 pub one_turn : (turn copy : Tree) (n : ℕ) → n ≡ 1 → copy ≡ turn → IsRepeated turn n (Some n) copy
-one_turn turn copy n e same =
-    let P : ℕ → Type 0 = λ k. IsRepeated turn k (Some k) turn in
-    let Q : Tree → Type 0 = λ t. IsRepeated turn n (Some n) t in
-    subst Q (sym same) (subst P (sym e) once)
+one_turn turn copy n e same = rw (same, e) once
 
 pub more_turns : (turn some others all : Tree) (m n count : ℕ) → m + n ≡ count → all ≡ tree.Both some others → IsRepeated turn m (Some m) some → IsRepeated turn n (Some n) others
     → IsRepeated turn count (Some count) all
-more_turns turn some others all m n count e same h k =
-    let P : ℕ → Type 0 = λ c. IsRepeated turn c (Some c) (tree.Both some others) in
-    let Q : Tree → Type 0 = λ t. IsRepeated turn count (Some count) t in
-    subst Q (sym same) (subst P e (sum h k))
+more_turns turn some others all m n count e same h k = rw (same, ← e) (sum h k)
 
 pub no_maybe : (turn : Tree) (n : ℕ) → n ≡ 0 → IsRepeated turn 0 (Some n) tree.Empty
-no_maybe turn n e = let P : ℕ → Type 0 = λ k. IsRepeated turn 0 (Some k) tree.Empty in subst P (sym e) none
+no_maybe turn n e = rw e none
 
 pub one_maybe : (turn copy all : Tree) → all ≡ tree.Either copy tree.Empty → copy ≡ turn → IsRepeated turn 0 (Some 1) all
-one_maybe turn copy all e same =
-    let P : Tree → Type 0 = λ t. IsRepeated turn 0 (Some 1) t in
-    subst P (sym (e ∙ ap (λ t. tree.Either t tree.Empty) same)) maybe
+one_maybe turn copy all e same = rw (e ∙ ap (λ t. tree.Either t tree.Empty) same) maybe
 
 pub more_maybes : (turn some others all : Tree) (m n count : ℕ) → m + n ≡ count → all ≡ tree.Both some others → IsRepeated turn 0 (Some m) some → IsRepeated turn 0 (Some n) others
     → IsRepeated turn 0 (Some count) all
-more_maybes turn some others all m n count e same h k =
-    let P : ℕ → Type 0 = λ c. IsRepeated turn 0 (Some c) (tree.Both some others) in
-    let Q : Tree → Type 0 = λ t. IsRepeated turn 0 (Some count) t in
-    subst Q (sym same) (subst P e (sum h k))
+more_maybes turn some others all m n count e same h k = rw (same, ← e) (sum h k)
 
 pub any_turns : (turn copy : Tree) → copy ≡ turn → IsRepeated turn 0 None (tree.Many copy)
-any_turns turn copy same = let P : Tree → Type 0 = λ t. IsRepeated turn 0 None (tree.Many t) in subst P (sym same) any
+any_turns turn copy same = rw same any
 
 pub all_turns : (turn some others all : Tree) (least : ℕ) (most : Option ℕ) → IfSome most (λ m. least ≤ m) → all ≡ tree.Both some others → IsRepeated turn least (Some least) some
     → IsRepeated turn 0 (further least most) others → IsRepeated turn least most all
 all_turns turn some others all least None le same h k =
-    let e : least + 0 ≡ least = omega arith in
-    let P : ℕ → Type 0 = λ c. IsRepeated turn c None (tree.Both some others) in
-    let Q : Tree → Type 0 = λ t. IsRepeated turn least None t in
-    subst Q (sym same) (subst P e (sum h k))
+    let e : least + 0 ≡ least = omega arith in rw same (rw e at (sum h k))
 all_turns turn some others all least (Some most) le same h k =
     let e : least + 0 ≡ least = omega arith in
     let f : least + (most - least) ≡ most = omega arith in
-    let P : ℕ → Type 0 = λ c. IsRepeated turn c (Some (least + (most - least))) (tree.Both some others) in
-    let R : ℕ → Type 0 = λ c. IsRepeated turn least (Some c) (tree.Both some others) in
-    let Q : Tree → Type 0 = λ t. IsRepeated turn least (Some most) t in
-    subst Q (sym same) (subst R f (subst P e (sum h k)))
+    rw same (rw f at (rw e at (sum h k)))
 
 -- ---- their bounds are in order
 
@@ -90,9 +73,7 @@ last_piece e _ rest (x ∷ trees) t (piece text {more = more} p row) =
     let l = last_piece e more rest trees t row in (l.0, piece text p l.1, l.2)
 
 pub last-part : (e : Bool) (text rest : List ℕ) (old new : List Node) (node : Node) → old ≡ new ++ node ∷ [] → HasRow e text (trees_of old) rest → Ended e text (trees_of new) (tree_of node) rest
-last-part e text rest old new node is h =
-    let P : List Tree → Type 0 = λ ts. HasRow e text ts rest in
-    last_piece e text rest (trees_of new) (tree_of node) (subst P (ap trees_of is ∙ trees-push new node) h)
+last-part e text rest old new node is h = last_piece e text rest (trees_of new) (tree_of node) (rw (ap trees_of is ∙ trees-push new node) at h)
 
 joins : (e : Bool) (text mid rest : List ℕ) (a b : Tree) → HasPiece e text a (separator e ++ mid) → HasPiece e mid b rest → HasPiece e text (joint e a b) rest
 joins true text mid rest a b h k = either h k
@@ -104,12 +85,11 @@ pub two-parts : (e : Bool) (text rest : List ℕ) (old mid new : List Tree) (a b
 two-parts e text rest old mid new a b all same second first h =
     let s = second text rest h in
     let f = first text (separator e ++ s.0) s.1 in
-    let P : Tree → Type 0 = λ t. HasPiece e f.0 t rest in
-    (f.0, f.1, subst P (sym same) (joins e f.0 s.0 rest a b f.2 s.2))
+    (f.0, f.1, (rw (← same) at (joins e f.0 s.0 rest a b f.2 s.2)))
 
-same_behind : (e : Bool) (text more : List ℕ) → separator e ++ text ≡ separator e ++ more → text ≡ more
-same_behind true text more e = cc
-same_behind false text more e = e
+same_after : (e : Bool) (text more : List ℕ) → separator e ++ text ≡ separator e ++ more → text ≡ more
+same_after true text more e = cc
+same_after false text more e = e
 
 row_end : (e : Bool) (text rest : List ℕ) → HasRow e text [] rest → text ≡ rest
 row_end e text _ no_piece = refl
@@ -119,13 +99,10 @@ no_items [] e = refl
 no_items (x ∷ xs) e = absurd (omega arith)
 
 pub whole-row : (e : Bool) (text rest : List ℕ) (new : List Node) (t : Tree) → length new ≡ 0 → Ended e (separator e ++ text) (trees_of new) t rest → HasPiece e text t rest
-whole-row e text rest new t empty h =
-    let P : List Node → Type 0 = λ ns. HasRow e (separator e ++ text) (trees_of ns) (separator e ++ h.0) in
-    let Q : List ℕ → Type 0 = λ s. HasPiece e s t rest in
-    subst Q (sym (same_behind e text h.0 (row_end e (separator e ++ text) (separator e ++ h.0) (subst P (no_items new empty) h.1)))) h.2
+whole-row e text rest new t empty h = rw (same_after e text h.0 (row_end e (separator e ++ text) (separator e ++ h.0) (rw (no_items new empty) at h.1))) h.2
 
 push : (e : Bool) (text next end rest : List ℕ) (trees : List Tree) (t : Tree) → end ≡ separator e ++ next → HasRow e text trees end → HasPiece e next t rest → HasRow e text (trees ++ t ∷ []) rest
-push e _ next end rest _ t is no_piece p = let P : List ℕ → Type 0 = λ s. HasRow e s (t ∷ []) rest in subst P (sym is) (piece next p no_piece)
+push e _ next end rest _ t is no_piece p = rw is (piece next p no_piece)
 push e _ next end rest _ t is (piece text {trees = trees} {more = more} q row) p = piece text q (push e more next end rest trees t is row p)
 
 -- one piece more

@@ -1,5 +1,5 @@
--- Matches by what holds behind them: at a place in a text, so that no part of the text has to be named.
-use Rattle.std.proofs.Common.{◌≡◌, ◌⊎◌, inl, inr, ℕ, zero, suc, true, List, [], ◌∷◌, ◌++◌, refl, ap, sym, ◌∙◌, subst, append_assoc}
+-- Matches by what holds after them: at a place in a text, so that no part of the text has to be named.
+use Rattle.std.proofs.Common.{◌≡◌, ◌⊎◌, inl, inr, ℕ, zero, suc, true, List, [], ◌∷◌, ◌++◌, refl, ap, sym, ◌∙◌, append_assoc}
 use Rattle.tmpl_formats.specs.Pattern.{Tree, Empty, One, Begin, End, Both, Either, Many, Part, Turns, Has, Finds, in_class}
 
 pub case_of : {A B C : Type 0} → A ⊎ B → (A → C) → (B → C) → C
@@ -13,12 +13,12 @@ Place = List ℕ → List ℕ → Type 0
 abbrev pub Any : Place
 Any b s = Unit {0}
 
--- so many turns, and then `next`
+-- this many turns, and then `next`
 abbrev pub Rounds : (Place → Place) → Place → ℕ → Place
 Rounds turn next zero before text = next before text
 Rounds turn next (suc n) before text = turn (Rounds turn next n) before text
 
--- at this place there is a match of the tree behind which `next` holds
+-- at this place there is a match of the tree after which `next` holds
 abbrev pub Leads : Tree → Place → Place
 Leads Empty next before text = next before text
 Leads (One is_negated spans) next before text =
@@ -42,14 +42,12 @@ abbrev Twice : Part → Part → Part
 Twice Is_one Is_other before part after = (p q : List ℕ) × (part ≡ p ++ q) × Is_one before p (q ++ after) × Is_other (before ++ p) q after
 
 no_part : (next : Place) (b s : List ℕ) → next b s → next (b ++ []) s
-no_part next b s h = let P : List ℕ → Type 0 = λ d. next d s in subst P (sym (append_nil b)) h
+no_part next b s h = rw (append_nil b) h
 
 two_parts : (Is_one Is_other : Part) (next : Place) (b s p rest q after : List ℕ) → s ≡ p ++ rest → rest ≡ q ++ after → Is_one b p rest → Is_other (b ++ p) q after → next (b ++ p ++ q) after
     → Split (Twice Is_one Is_other) next b s
 two_parts Is_one Is_other next b s p rest q after e f first second h =
-    let P : List ℕ → Type 0 = λ r. Is_one b p r in
-    let Q : List ℕ → Type 0 = λ d. next d after in
-    (p ++ q, after, e ∙ (ap (λ r. p ++ r) f ∙ sym (append_assoc p q after)), (p, q, refl, subst P f first, second), subst Q (append_assoc b p q) h)
+    (p ++ q, after, e ∙ (ap (λ r. p ++ r) f ∙ sym (append_assoc p q after)), (p, q, refl, (rw f at first), second), (rw (append_assoc b p q) at h))
 
 parts_of_rounds : (Is : Part) (has : Place → Place) (next : Place) → ((next : Place) (b s : List ℕ) → has next b s → Split Is next b s) → (n : ℕ) (b s : List ℕ) → Rounds has next n b s
     → Split (Turns Is n) next b s
@@ -73,28 +71,20 @@ part_of (Either x y) next b s h =
     (λ g. let r = part_of x next b s g in (r.0, r.1, r.2, inl r.3, r.4))
     (λ g. let r = part_of y next b s g in (r.0, r.1, r.2, inr r.3, r.4))
 part_of (Many x) next b s h =
-    let r = parts_of_rounds (Has x) (Leads x) next (part_of x) h.0 b s h.1 in
-    (r.0, r.1, r.2, (h.0, r.3), r.4)
+    let r = parts_of_rounds (Has x) (Leads x) next (part_of x) h.0 b s h.1 in (r.0, r.1, r.2, (h.0, r.3), r.4)
 
 -- ---- .. and the other way
 
 from_no_part : (next : Place) (b part after : List ℕ) → part ≡ [] → next (b ++ part) after → next b (part ++ after)
-from_no_part next b part after e h =
-    let P : List ℕ → Type 0 = λ p. next (b ++ p) after in
-    let Q : List ℕ → Type 0 = λ d. next d after in
-    let R : List ℕ → Type 0 = λ p. next b (p ++ after) in
-    subst R (sym e) (subst Q (append_nil b) (subst P e h))
+from_no_part next b part after e h = rw (e, ← append_nil b, ← e) h
 
 joined : (next other : Place) (has : Place → Place) (Is_one Is_other : Part) (b part after : List ℕ)
     → ((b part after : List ℕ) → Is_one b part after → other (b ++ part) after → has other b (part ++ after))
     → ((b part after : List ℕ) → Is_other b part after → next (b ++ part) after → other b (part ++ after))
     → Twice Is_one Is_other b part after → next (b ++ part) after → has other b (part ++ after)
 joined next other has Is_one Is_other b part after first second h k =
-    let P : List ℕ → Type 0 = λ p. next (b ++ p) after in
-    let Q : List ℕ → Type 0 = λ d. next d after in
-    let R : List ℕ → Type 0 = λ s. has other b s in
-    let behind = second (b ++ h.0) h.1 after h.4 (subst Q (sym (append_assoc b h.0 h.1)) (subst P h.2 k)) in
-    subst R (sym (ap (λ r. r ++ after) h.2 ∙ append_assoc h.0 h.1 after)) (first b h.0 (h.1 ++ after) h.3 behind)
+    let later = second (b ++ h.0) h.1 after h.4 (rw (h.2, ← append_assoc b h.0 h.1) at k) in
+    rw (ap (λ r. r ++ after) h.2 ∙ append_assoc h.0 h.1 after) (first b h.0 (h.1 ++ after) h.3 later)
 
 rounds_of_parts : (Is : Part) (has : Place → Place) (next : Place)
     → ((next : Place) (b part after : List ℕ) → Is b part after → next (b ++ part) after → has next b (part ++ after))
@@ -105,9 +95,7 @@ rounds_of_parts Is has next known (suc n) b part after h k =
 
 leads_of : (p : Tree) (next : Place) (b part after : List ℕ) → Has p b part after → next (b ++ part) after → Leads p next b (part ++ after)
 leads_of Empty next b part after h k = from_no_part next b part after h k
-leads_of (One is_negated spans) next b part after h k =
-    let P : List ℕ → Type 0 = λ p. next (b ++ p) after in
-    (h.0, after, ap (λ p. p ++ after) h.1, h.2, subst P h.1 k)
+leads_of (One is_negated spans) next b part after h k = (h.0, after, ap (λ p. p ++ after) h.1, h.2, (rw h.1 at k))
 leads_of Begin next b part after h k = (h.1, from_no_part next b part after h.0 k)
 leads_of End next b part after h k = (ap (λ p. p ++ after) h.0 ∙ h.1, from_no_part next b part after h.0 k)
 leads_of (Both x y) next b part after h k = joined next (Leads y next) (Leads x) (Has x) (Has y) b part after (leads_of x (Leads y next)) (leads_of y next) h k
@@ -121,5 +109,4 @@ finds-leads p text h = (h.0, h.1 ++ h.2, h.3, leads_of p Any h.0 h.1 h.2 h.4 tt)
 
 pub leads-finds : (p : Tree) (text before rest : List ℕ) → text ≡ before ++ rest → Leads p Any before rest → Finds p text
 leads-finds p text before rest e h =
-    let r = part_of p Any before rest h in
-    (before, r.0, r.1, e ∙ ap (λ s. before ++ s) r.2, r.3)
+    let r = part_of p Any before rest h in (before, r.0, r.1, e ∙ ap (λ s. before ++ s) r.2, r.3)

@@ -9,8 +9,7 @@ use Rattle.tmpl_formats.specs.computed.PatternMarks.{Search, begun, read, has_fo
 
 pub finds-step : (search next : Search) (cs ys : List ℕ) (c : ℕ) (whole : Bool) → finds search (drop (length ys) cs) ≡ whole → (length ys < length cs) × (c ≡ get_or cs (length ys) c)
     → next ≡ read search c → finds next (drop (length (ys ++ c ∷ [])) cs) ≡ whole
-finds-step search next cs ys c whole h t is =
-    rw (length_push ys c, is)
+finds-step search next cs ys c whole h t is = rw (length_push ys c, is)
     (ap (λ x. finds (read search x) (drop (length ys + 1) cs)) t.1 ∙ sym (at_drop_more (finds search) cs (length ys) c t.0) ∙ h)
 
 pub finds-end : (search : Search) (cs ys : List ℕ) (whole : Bool) → finds search (drop (length ys) cs) ≡ whole → length ys ≡ length cs → has_found search ≡ whole

@@ -1,5 +1,5 @@
 -- A search finds a match exactly where there is one.
-use Rattle.std.proofs.Common.{◌≡◌, ◌⊎◌, inl, inr, ℕ, zero, suc, Bool, true, false, List, [], ◌∷◌, ◌++◌, refl, ap, sym, subst, append_assoc}
+use Rattle.std.proofs.Common.{◌≡◌, ◌⊎◌, inl, inr, ℕ, zero, suc, Bool, true, false, List, [], ◌∷◌, ◌++◌, refl, ap, append_assoc}
 use Rattle.std.specs.Prelude.{◌||◌}
 use Rattle.tmpl_formats.proofs.PatternLemmas.{and_of, and_both, or_cases, or_left, or_right, is_nil, nil_of, not_nil, and_false, Rest, Goes, Kept, kept-first, kept-shifted, plain-shifted, reads, from_read}
 use Rattle.tmpl_formats.specs.Pattern as tree
@@ -59,33 +59,23 @@ abbrev Later : Tree → Place
 Later p b s = (skip rest : List ℕ) × (s ≡ skip ++ rest) × Leads p Any (b ++ skip) rest
 
 later_at : (p : Tree) (b : List ℕ) (c : ℕ) (s skip rest : List ℕ) → c ∷ s ≡ skip ++ rest → Leads p Any (b ++ skip) rest → Leads p Any b (c ∷ s) ⊎ Later p (b ++ c ∷ []) s
-later_at p b c s [] rest e h =
-    let P : List ℕ → Type 0 = λ d. Leads p Any d rest in
-    let Q : List ℕ → Type 0 = λ r. Leads p Any b r in
-    inl (subst Q (sym e) (subst P (append_nil b) h))
+later_at p b c s [] rest e h = inl (rw (append_nil b, ← e) at h)
 later_at p b c s (d ∷ skip) rest e h =
     let same : d ≡ c = cc in
     let left : s ≡ skip ++ rest = cc in
-    let P : ℕ → Type 0 = λ d. Leads p Any (b ++ d ∷ skip) rest in
-    let Q : List ℕ → Type 0 = λ d. Leads p Any d rest in
-    inr (skip, rest, left, subst Q (sym (append_assoc b (c ∷ []) skip)) (subst P same h))
+    inr (skip, rest, left, (rw (same, ← append_assoc b (c ∷ []) skip) at h))
 
 later : (p : Tree) (b : List ℕ) (c : ℕ) (s : List ℕ) → Later p b (c ∷ s) → Leads p Any b (c ∷ s) ⊎ Later p (b ++ c ∷ []) s
 later p b c s h = later_at p b c s h.0 h.1 h.2 h.3
 
 now : (p : Tree) (b s : List ℕ) → Leads p Any b s → Later p b s
-now p b s h = let P : List ℕ → Type 0 = λ d. Leads p Any d s in ([], s, refl, subst P (sym (append_nil b)) h)
+now p b s h = ([], s, refl, (rw (← append_nil b) at h))
 
 from_later : (p : Tree) (b : List ℕ) (c : ℕ) (s : List ℕ) → Later p (b ++ c ∷ []) s → Later p b (c ∷ s)
-from_later p b c s h =
-    let P : List ℕ → Type 0 = λ d. Leads p Any d h.1 in
-    (c ∷ h.0, h.1, ap (λ r. c ∷ r) h.2, subst P (append_assoc b (c ∷ []) h.0) h.3)
+from_later p b c s h = (c ∷ h.0, h.1, ap (λ r. c ∷ r) h.2, (rw (append_assoc b (c ∷ []) h.0) at h.3))
 
 later_end_at : (p : Tree) (b skip rest : List ℕ) → [] ≡ skip ++ rest → Leads p Any (b ++ skip) rest → Leads p Any b []
-later_end_at p b [] rest e h =
-    let P : List ℕ → Type 0 = λ d. Leads p Any d rest in
-    let Q : List ℕ → Type 0 = λ r. Leads p Any b r in
-    subst Q (sym e) (subst P (append_nil b) h)
+later_end_at p b [] rest e h = rw (e, ← append_nil b) h
 later_end_at p b (d ∷ skip) rest e h = absurd (cc)
 
 -- ---- a search
@@ -98,13 +88,13 @@ abbrev searching : List ℕ → Marks → Bool → Search
 searching b t found = record { marks = t; is_first = is_nil b; found = found }
 
 kept_on : (b : List ℕ) (c : ℕ) (t : Marks) (e : Bool) → Kept (is_nil (b ++ c ∷ [])) (shifted (is_nil b) c t e)
-kept_on b c t e = let P : Bool → Type 0 = λ f. Kept f (shifted (is_nil b) c t e) in subst P (sym (not_nil b c)) (kept-shifted (is_nil b) c t e)
+kept_on b c t e = rw (not_nil b c) (kept-shifted (is_nil b) c t e)
 
 later_shifted : (b : List ℕ) (c : ℕ) (s : List ℕ) (t : Marks) (e : Bool) → Later (plain t) (b ++ c ∷ []) s → Later (plain (shifted (is_nil b) c t e)) (b ++ c ∷ []) s
-later_shifted b c s t e h = let P : Tree → Type 0 = λ p. Later p (b ++ c ∷ []) s in subst P (sym (plain-shifted (is_nil b) c t e)) h
+later_shifted b c s t e h = rw (plain-shifted (is_nil b) c t e) h
 
 later_back : (b : List ℕ) (c : ℕ) (s : List ℕ) (t : Marks) (e : Bool) → Later (plain (shifted (is_nil b) c t e)) (b ++ c ∷ []) s → Later (plain t) (b ++ c ∷ []) s
-later_back b c s t e h = let P : Tree → Type 0 = λ p. Later p (b ++ c ∷ []) s in subst P (plain-shifted (is_nil b) c t e) h
+later_back b c s t e h = rw (← plain-shifted (is_nil b) c t e) h
 
 goes_will : (b s : List ℕ) (t : Marks) → Goes t true Any b s → Will t false b s
 goes_will b s t g = case_of g (λ h. inr (inr (now (plain t) b s h.1))) (λ r. inr (inl r))
@@ -141,8 +131,7 @@ found_of (c ∷ s) b t false kept h =
     let known = case_of kept (λ no. (let k : Kept (is_nil b) t = absurd (cc) in k)) (λ k. k) in
     let more = shifted (is_nil b) c t true in
     let p = passes (is_nil b) t true in
-    let P : Bool → Type 0 = λ f. finds (record { marks = more; is_first = f; found = p }) s ≡ true in
-    case_of (found_of s (b ++ c ∷ []) more p (inr (kept_on b c t true)) (subst P (sym (not_nil b c)) h))
+    case_of (found_of s (b ++ c ∷ []) more p (inr (kept_on b c t true)) (rw (← not_nil b c) at h))
     (λ e. goes_will b (c ∷ s) t (from_read b c s t known true Any (inr (e, tt))))
     (λ h. case_of h
     (λ r. goes_will b (c ∷ s) t (from_read b c s t known true Any (inl r)))
@@ -166,5 +155,4 @@ finds_so t text h =
 
 pub finds_back : (t : Marks) (text : List ℕ) → Finds (plain t) text → finds (begun t) text ≡ true
 finds_back t text h =
-    let l = finds-leads (plain t) text h in
-    found_by text [] t false (inr (kept-first t)) (inr (inr l))
+    let l = finds-leads (plain t) text h in found_by text [] t false (inr (kept-first t)) (inr (inr l))

@@ -13,14 +13,12 @@ with_some P Q f (Some a) h = f a h
 
 pub digits-more : (base count first n c : ℕ) (text more rest : List ℕ) → HasDigits base count first text n more → more ≡ c ∷ rest → digit_value c < base
     → HasDigits base (suc count) first text (n * base + digit_value c) rest
-digits-more base _ first _ c _ more rest no_more e lt =
-    let P : List ℕ → Type 0 = λ t. HasDigits base 1 first t (first * base + digit_value c) rest in subst P (sym e) (one_more lt no_more)
+digits-more base _ first _ c _ more rest no_more e lt = rw e (one_more lt no_more)
 digits-more base _ first n c _ more rest (one_more {count} {text = text} below h) e lt = one_more below (digits-more base count _ n c text more rest h e lt)
 
 pub digit-next : (base count n m c : ℕ) (text more rest : List ℕ) → HasDigits base count 0 text n more → more ≡ c ∷ rest → digit_value c < base → m ≡ n * base + digit_value c
     → HasDigits base (suc count) 0 text m rest
-digit-next base count n m c text more rest h e lt is =
-    let P : ℕ → Type 0 = λ k. HasDigits base (suc count) 0 text k rest in subst P (sym is) (digits-more base count 0 n c text more rest h e lt)
+digit-next base count n m c text more rest h e lt is = rw is (digits-more base count 0 n c text more rest h e lt)
 
 pub digit-first : (base m c : ℕ) (text rest : List ℕ) → text ≡ c ∷ rest → digit_value c < base → m ≡ 0 * base + digit_value c → HasDigits base 1 0 text m rest
 digit-first base m c text rest e lt is = digit-next base 0 0 m c text text rest no_more e lt is

@@ -1,5 +1,5 @@
 -- Atoms and terms of regular expressions.
-use Rattle.std.proofs.Common.{◌≡◌, ℕ, Bool, false, List, [], ◌∷◌, ◌++◌, length, arith, ap, ◌∙◌, Option, Some, None, Result, Ok, Err, refl, sym, subst}
+use Rattle.std.proofs.Common.{◌≡◌, ℕ, Bool, false, List, [], ◌∷◌, ◌++◌, length, arith, ap, ◌∙◌, Option, Some, None, Result, Ok, Err, refl}
 use Rattle.std.specs.Prelude.{IfOk, IfSome}
 use Rattle.tmpl_formats.specs.Pattern as tree
 use Rattle.tmpl_formats.specs.Pattern.{Tree}
@@ -14,10 +14,7 @@ pub atom-of : {E : Type 0} (text now read : List ℕ) (t : Tree) (r : Result (Op
     → IfOk r (λ o. IfSome o (λ node. HasAtom text (tree_of node) now))
 atom-of text now read t (Err e) h same atom = tt
 atom-of text now read t (Ok None) h same atom = tt
-atom-of text now read t (Ok (Some node)) h same atom =
-    let P : List ℕ → Type 0 = λ s. HasAtom text t s in
-    let Q : Tree → Type 0 = λ p. HasAtom text p now in
-    subst Q (sym h) (subst P (sym same) atom)
+atom-of text now read t (Ok (Some node)) h same atom = rw (h, same) atom
 
 -- an atom and its repetition
 pub term-of : {E : Type 0} (text left now : List ℕ) (turn : Tree) (r : Result (Option Node) E) → HasAtom text turn left
@@ -37,12 +34,10 @@ group-of text inner now (Ok (Some node)) f h = f (tree_of node) h
 -- a row with one part more
 pub row-add : (e : Bool) (text left next : List ℕ) (old new : List Node) (node : Node) → new ≡ old ++ node ∷ [] → HasRow e text (trees_of old) (separator e ++ left)
     → HasPiece e left (tree_of node) next → HasRow e text (trees_of new) next
-row-add e text left next old new node is row p =
-    let P : List Tree → Type 0 = λ ts. HasRow e text ts next in
-    subst P (sym (ap trees_of is ∙ trees-push old node)) (row-push e text left next (trees_of old) (tree_of node) row p)
+row-add e text left next old new node is row p = rw (ap trees_of is ∙ trees-push old node) (row-push e text left next (trees_of old) (tree_of node) row p)
 
 pub row-start : (e : Bool) (text : List ℕ) (nodes : List Node) → nodes ≡ [] → HasRow e text (trees_of nodes) text
-row-start e text nodes is = let P : List Node → Type 0 = λ ns. HasRow e text (trees_of ns) text in subst P (sym is) no_piece
+row-start e text nodes is = rw is no_piece
 
 none_there : {A : Type 0} (xs : List A) → length xs ≡ 0 → xs ≡ []
 none_there [] e = refl
@@ -53,7 +48,4 @@ nothing_in text _ no_piece = nothing
 
 -- a row of no part
 pub row-none : (text rest next : List ℕ) (nodes : List Node) → length nodes ≡ 0 → next ≡ rest → HasRow false text (trees_of nodes) rest → HasSequence text tree.Empty next
-row-none text rest next nodes is same row =
-    let P : List Node → Type 0 = λ ns. HasRow false text (trees_of ns) rest in
-    let Q : List ℕ → Type 0 = λ s. HasSequence text tree.Empty s in
-    subst Q (sym same) (nothing_in text rest (subst P (none_there nodes is) row))
+row-none text rest next nodes is same row = rw same (nothing_in text rest (rw (none_there nodes is) at row))

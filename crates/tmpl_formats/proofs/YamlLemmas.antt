@@ -1,15 +1,15 @@
 -- What the machine for YAML accepts is YAML.
-use Rattle.std.proofs.Common.{◌≡◌, ℕ, ◌==◌, Bool, true, false, cond, ◌&&◌, List, [], ◌∷◌, ◌++◌, Option, Some, None, refl, sym, ap, subst, arith}
+use Rattle.std.proofs.Common.{◌≡◌, ℕ, ◌==◌, Bool, true, false, cond, ◌&&◌, List, [], ◌∷◌, ◌++◌, Option, Some, None, refl, ap, arith}
 use Rattle.std.proofs.lemmas.Grind.{common_steps}
-use Rattle.std.specs.Prelude.{option_map, not}
-use Rattle.tmpl_formats.proofs.MachineLemmas.{went}
+use Rattle.std.specs.Prelude.{option_and_then, option_map, not}
+use Rattle.tmpl_formats.proofs.MachineLemmas.{both, went}
 use Rattle.tmpl_formats.proofs.YamlNestLemmas.{Left, left_end, documents_of}
-use Rattle.tmpl_formats.proofs.YamlLineLemmas.{Rest, rest_of, after, Goes, Moved, Went, byte_goes}
+use Rattle.tmpl_formats.proofs.YamlLineLemmas.{Rest, rest_of, Goes, Moved, Went, byte_goes}
 use Rattle.tmpl_formats.specs.Yaml.{ends as tokens_end, no_line, empty, IsYaml}
 use Rattle.tmpl_formats.specs.YamlScalar.{is_unprintable, is_printable}
 use Rattle.tmpl_formats.specs.computed.Machine.{mistake, after_step}
-use Rattle.tmpl_formats.specs.computed.Yaml.{Config, with_nest, written, went_if, moved, kept, step, is_margin, begins_line, is_done, done_if, ends, start, yaml_mistake}
-use Rattle.tmpl_formats.specs.computed.YamlLine.{move_of}
+use Rattle.tmpl_formats.specs.computed.Yaml.{Config, with_nest, written, went as went_by, moved, kept, step, begins_line, is_done, done_if, ends, start, yaml_mistake}
+use Rattle.tmpl_formats.specs.computed.YamlLine.{is_margin, move_of}
 use Rattle.tmpl_formats.specs.computed.YamlNest.{Nest, nest_at, head_of, happened, is_in_brackets}
 use Rattle.tmpl_formats.specs.declared.yaml_line.Control.{Control}
 use Rattle.tmpl_formats.specs.declared.yaml_line.Control.TheVariants as at
@@ -55,7 +55,7 @@ nest_moved : (r : Option Nest) (a b : ℕ) (q : Control) (s : List ℕ) (text : 
 nest_moved None a b q s text known h = cc
 nest_moved (Some n) a b q s text known h = known (with_nest a b q s n) (went (λ d. mistake step is_done d text) (with_nest a b q s n) h)
 
-move_went : (r : Option Move) (c : Config) (text : List ℕ) → Known text → Goes_on (went_if r c) text → Went r c.scalar c.nest text
+move_went : (r : Option Move) (c : Config) (text : List ℕ) → Known text → Goes_on (option_and_then (λ m. went_by m c) r) text → Went r c.scalar c.nest text
 move_went None c text known h = cc
 move_went (Some m) c text known h = nest_moved (happened m.event c.nest) c.before c.last m.control (written m.write c.scalar) text known h
 
@@ -73,18 +73,13 @@ line_ends : (n : Nest) → head_of n.brackets ≡ None → Rest place.Line 0 (Le
 line_ends n e = rest_of tokens_end (left_end n e)
 
 margin_ends : (p : Place) (c : ℕ) (n : Nest) → is_margin p c ≡ true → head_of n.brackets ≡ None → Rest p c (Left n) []
-margin_ends place.Line c n e f = let P : ℕ → Type 0 = λ m. Rest place.Line m (Left n) [] in subst P (sym (same_of c 0 e)) (line_ends n f)
-margin_ends (place.Item d) c n e f = cc
-margin_ends (place.Value d) c n e f = cc
-margin_ends place.End c n e f = cc
-margin_ends place.Flow c n e f = cc
+margin_ends place.Line c n e f = rw (same_of c 0 e) (line_ends n f)
+margin_ends _ c n e f = cc
 
 control_ends : (q : Control) (s : List ℕ) (n : Nest) → begins_line q ≡ true → head_of n.brackets ≡ None → Goes q s (Left n) n.brackets []
 control_ends (at.At x) s n e f = margin_ends x.place x.column n e f
-control_ends (at.Block parent c) s n e f =
-    let P : ℕ → Type 0 = λ m. Goes (at.Block parent m) s (Left n) n.brackets [] in subst P (sym (same_of c 0 e)) (after empty (line_ends n f))
-control_ends (at.Indent parent own c) s n e f =
-    let P : ℕ → Type 0 = λ m. Goes (at.Indent parent own m) s (Left n) n.brackets [] in subst P (sym (same_of c 0 e)) (after no_line (line_ends n f))
+control_ends (at.Block parent c) s n e f = rw (same_of c 0 e) (both empty (line_ends n f))
+control_ends (at.Indent parent own c) s n e f = rw (same_of c 0 e) (both no_line (line_ends n f))
 control_ends _ s n e f = cc
 
 no_bracket_of : (bs : List Bracket) (n : Nest) → (n.brackets ≡ bs) → not (is_in_brackets (nest_at n.awaited n.levels bs)) ≡ true → head_of n.brackets ≡ None
@@ -110,7 +105,7 @@ nest_printable : (r : Option Nest) (a b : ℕ) (q : Control) (s : List ℕ) (tex
 nest_printable None a b q s text known h = cc
 nest_printable (Some n) a b q s text known h = known (with_nest a b q s n) (went (λ d. mistake step ends d text) (with_nest a b q s n) h)
 
-move_printable : (r : Option Move) (c : Config) (text : List ℕ) → Printable text → after_step (λ d. mistake step ends d text) (went_if r c) ≡ None
+move_printable : (r : Option Move) (c : Config) (text : List ℕ) → Printable text → after_step (λ d. mistake step ends d text) (option_and_then (λ m. went_by m c) r) ≡ None
     → is_printable c.before c.last text ≡ true
 move_printable None c text known h = cc
 move_printable (Some m) c text known h = nest_printable (happened m.event c.nest) c.before c.last m.control (written m.write c.scalar) text known h

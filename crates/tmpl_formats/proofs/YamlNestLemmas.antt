@@ -1,9 +1,10 @@
 -- Tokens that the nest takes are documents.
 use Rattle.std.proofs.Common.{◌≡◌, ◌⊎◌, inl, inr, ◌≤◌, ℕ, suc, ◌==◌, Bool, true, false, cond, ◌&&◌, List, [], ◌∷◌, ◌++◌, Option, Some, None, arith, refl, sym, subst, nat_lt, nat_le, zero-le}
 use Rattle.std.proofs.lemmas.Grind.{common_steps}
-use Rattle.std.specs.Prelude.{option_map, option_and_then}
+use Rattle.std.specs.Bool.{then_some}
+use Rattle.std.specs.Prelude.{not, option_map, option_and_then}
 use Rattle.tmpl_formats.specs.Yaml.{HasFlow, flow_scalar, flow_open, HasEntry, element, member, HasInside, closed, last_entry, more_entries, HasNode, nothing, a_scalar, brackets, a_map, a_sequence, HasKeys, no_key, a_key, HasValue, beyond, level, HasItems, no_item, an_item, IsDocuments, last_document, more_documents}
-use Rattle.tmpl_formats.specs.computed.YamlNest.{Nest, nest_at, head_of, push_if, expect_if, open_if, is_value, is_nothing, holds, holds_in, holds_at, item, item_at, key, key_at, close_if, close as close_change, comma as comma_change, marker as marker_change, applied, taken, is_over, unwound_from, settled, may_begin, begun, may_dash, dashed, taken_item, happened}
+use Rattle.tmpl_formats.specs.computed.YamlNest.{Nest, nest_at, head_of, is_value, is_nothing, holds, holds_in, item, key, change_of, applied, taken, is_over, unwound_from, settled, may_begin, begun, taken_item, happened}
 use Rattle.tmpl_formats.specs.declared.yaml_nest.Bracket.{Bracket}
 use Rattle.tmpl_formats.specs.declared.yaml_nest.Bracket.TheVariants as bracket
 use Rattle.tmpl_formats.specs.declared.yaml_nest.Change.{Change}
@@ -24,32 +25,32 @@ pub data Then (P : List Token → List Token → Type 0) (Q : List Token → Typ
   both : {ts rest : List Token} → P ts rest → Q rest → Then P Q ts
 
 -- after a value, outside brackets
-pub data BehindLevels : List Level → List Token → Type 0 where
-  all_closed : BehindLevels [] []
-  before_marker : {ts : List Token} → IsDocuments ts → BehindLevels [] (token.Marker ∷ ts)
-  in_map : {c : ℕ} {ls : List Level} {ts more : List Token} → HasKeys c ts more → BehindLevels ls more → BehindLevels (lev.Map c ∷ ls) ts
-  in_sequence : {c : ℕ} {ls : List Level} {ts more : List Token} → HasItems c ts more → BehindLevels ls more → BehindLevels (lev.Sequence c ∷ ls) ts
+pub data AfterBlock : List Level → List Token → Type 0 where
+  all_closed : AfterBlock [] []
+  before_marker : {ts : List Token} → IsDocuments ts → AfterBlock [] (token.Marker ∷ ts)
+  in_map : {c : ℕ} {ls : List Level} {ts more : List Token} → HasKeys c ts more → AfterBlock ls more → AfterBlock (lev.Map c ∷ ls) ts
+  in_sequence : {c : ℕ} {ls : List Level} {ts more : List Token} → HasItems c ts more → AfterBlock ls more → AfterBlock (lev.Sequence c ∷ ls) ts
 
 -- after a value
-pub data Behind (ls : List Level) : List Bracket → List Token → Type 0 where
-  no_bracket : {ts : List Token} → BehindLevels ls ts → Behind ls [] ts
-  closes : {k : Bracket} {bs : List Bracket} {ts : List Token} → Behind ls bs ts → Behind ls (k ∷ bs) (token.Close k ∷ ts)
-  goes_on : {k : Bracket} {bs : List Bracket} {ts more : List Token} → HasInside k ts more → Behind ls bs more → Behind ls (k ∷ bs) (token.Comma ∷ ts)
+pub data AfterValue (ls : List Level) : List Bracket → List Token → Type 0 where
+  no_bracket : {ts : List Token} → AfterBlock ls ts → AfterValue ls [] ts
+  closes : {k : Bracket} {bs : List Bracket} {ts : List Token} → AfterValue ls bs ts → AfterValue ls (k ∷ bs) (token.Close k ∷ ts)
+  goes_on : {k : Bracket} {bs : List Bracket} {ts more : List Token} → HasInside k ts more → AfterValue ls bs more → AfterValue ls (k ∷ bs) (token.Comma ∷ ts)
 
 abbrev pub Waiting : List Level → List Bracket → List Token → Type 0
-Waiting [] [] ts = Then (HasNode 0) (BehindLevels []) ts
-Waiting (lev.Map c ∷ ls) [] ts = Then (HasValue c) (BehindLevels (lev.Map c ∷ ls)) ts
-Waiting (lev.Sequence c ∷ ls) [] ts = Then (HasNode (suc c)) (BehindLevels (lev.Sequence c ∷ ls)) ts
-Waiting ls (k ∷ bs) ts = Then HasFlow (Behind ls (k ∷ bs)) ts
+Waiting [] [] ts = Then (HasNode 0) (AfterBlock []) ts
+Waiting (lev.Map c ∷ ls) [] ts = Then (HasValue c) (AfterBlock (lev.Map c ∷ ls)) ts
+Waiting (lev.Sequence c ∷ ls) [] ts = Then (HasNode (suc c)) (AfterBlock (lev.Sequence c ∷ ls)) ts
+Waiting ls (k ∷ bs) ts = Then HasFlow (AfterValue ls (k ∷ bs)) ts
 
 abbrev pub Inside : List Level → List Bracket → List Token → Type 0
 Inside ls [] ts = Unit {0}
-Inside ls (k ∷ bs) ts = Then (HasInside k) (Behind ls bs) ts
+Inside ls (k ∷ bs) ts = Then (HasInside k) (AfterValue ls bs) ts
 
 abbrev pub LeftAt : Expects → List Level → List Bracket → List Token → Type 0
 LeftAt expects.Value ls bs ts = Waiting ls bs ts
 LeftAt expects.Entry ls bs ts = Inside ls bs ts
-LeftAt expects.Nothing ls bs ts = Behind ls bs ts
+LeftAt expects.Nothing ls bs ts = AfterValue ls bs ts
 
 abbrev pub Left : Nest → List Token → Type 0
 Left n ts = LeftAt n.awaited n.levels n.brackets ts
@@ -64,26 +65,16 @@ Fits (Some n) ts = Left n ts
 abbrev Changed : Option Change → Nest → List Token → Type 0
 Changed r n ts = Fits (option_map (λ x. applied x n) r) ts
 
-push_fits : (t : Bool) (l : Level) (e : Expects) (ls : List Level) (ts : List Token) → Changed (push_if t l) (nest_at e ls []) ts → (t ≡ true) × Waiting (l ∷ ls) [] ts
-push_fits true l e ls ts p = (refl, p)
-push_fits false l e ls ts p = absurd p
-
-expect_fits : (t : Bool) (f e : Expects) (ls : List Level) (bs : List Bracket) (ts : List Token) → Changed (expect_if t f) (nest_at e ls bs) ts → (t ≡ true) × LeftAt f ls bs ts
-expect_fits true f e ls bs ts p = (refl, p)
-expect_fits false f e ls bs ts p = absurd p
-
-open_fits : (t : Bool) (k : Bracket) (e : Expects) (ls : List Level) (bs : List Bracket) (ts : List Token) → Changed (open_if t k) (nest_at e ls bs) ts
-    → (t ≡ true) × Then (HasInside k) (Behind ls bs) ts
-open_fits true k e ls bs ts p = (refl, p)
-open_fits false k e ls bs ts p = absurd p
+changes : (t : Bool) (x : Change) (n : Nest) (ts : List Token) → Changed (then_some t x) n ts → (t ≡ true) × Left (applied x n) ts
+changes true x n ts p = (refl, p)
+changes false x n ts p = absurd p
 
 -- nothing stands for a value that is wanted
-null_value : (e : Expects) (ls : List Level) (ts : List Token) → BehindLevels ls ts → LeftAt e ls [] ts
-null_value expects.Value [] ts b = both nothing b
+null_value : (e : Expects) (ls : List Level) (ts : List Token) → AfterBlock ls ts → LeftAt e ls [] ts
 null_value expects.Value (lev.Map c ∷ ls) ts b = both (beyond nothing) b
-null_value expects.Value (lev.Sequence c ∷ ls) ts b = both nothing b
 null_value expects.Entry ls ts b = tt
 null_value expects.Nothing ls ts b = no_bracket b
+null_value expects.Value _ ts b = both nothing b
 
 -- the column is beyond that of the innermost level
 abbrev IsDeeper : ℕ → List Level → Type 0
@@ -101,7 +92,7 @@ same_of : (a b : ℕ) → (a == b) ≡ true → a ≡ b
 same_of a b = grind (arith, common_steps)
 
 -- a node, where a value is wanted
-a_node : (ls : List Level) (c : ℕ) (ts more : List Token) → IsDeeper c ls → ((least : ℕ) → least ≤ c → HasNode least ts more) → BehindLevels ls more → Waiting ls [] ts
+a_node : (ls : List Level) (c : ℕ) (ts more : List Token) → IsDeeper c ls → ((least : ℕ) → least ≤ c → HasNode least ts more) → AfterBlock ls more → Waiting ls [] ts
 a_node [] c ts more d f b = both (f 0 zero-le) b
 a_node (lev.Map own ∷ ls) c ts more d f b = both (beyond (f (suc own) d)) b
 a_node (lev.Sequence own ∷ ls) c ts more d f b = both (f (suc own) d) b
@@ -113,10 +104,10 @@ map_node : (ls : List Level) (c : ℕ) (ts : List Token) → IsDeeper c ls → W
 map_node ls c ts d (both v (in_map {more} ks b)) = a_node ls c (token.Key c ∷ ts) more d (λ least le. a_map le (a_key v ks)) b
 
 -- one item more, one key more
-next_item : (ls : List Level) (c : ℕ) (ts : List Token) → Waiting (lev.Sequence c ∷ ls) [] ts → BehindLevels (lev.Sequence c ∷ ls) (token.Item c ∷ ts)
+next_item : (ls : List Level) (c : ℕ) (ts : List Token) → Waiting (lev.Sequence c ∷ ls) [] ts → AfterBlock (lev.Sequence c ∷ ls) (token.Item c ∷ ts)
 next_item ls c ts (both n (in_sequence is b)) = in_sequence (an_item n is) b
 
-next_key : (ls : List Level) (c : ℕ) (ts : List Token) → Waiting (lev.Map c ∷ ls) [] ts → BehindLevels (lev.Map c ∷ ls) (token.Key c ∷ ts)
+next_key : (ls : List Level) (c : ℕ) (ts : List Token) → Waiting (lev.Map c ∷ ls) [] ts → AfterBlock (lev.Map c ∷ ls) (token.Key c ∷ ts)
 next_key ls c ts (both v (in_map ks b)) = in_map (a_key v ks) b
 
 -- a sequence at the column of its key
@@ -146,25 +137,22 @@ item_fits c expects.Value [] ts p = sequence_node [] c ts tt p
 item_fits c expects.Entry [] ts p = absurd p
 item_fits c expects.Nothing [] ts p = absurd p
 item_fits c expects.Value (lev.Map d ∷ ls) ts p =
-    let q = push_fits (nat_le d c) (lev.Sequence c) expects.Value (lev.Map d ∷ ls) ts p in item_under_map ls d c ts (order_of d c (at_most d c q.0)) q.1
+    let q = changes (nat_le d c) (change.Push (lev.Sequence c)) (nest_at expects.Value (lev.Map d ∷ ls) []) ts p in item_under_map ls d c ts (order_of d c (at_most d c q.0)) q.1
 item_fits c expects.Entry (lev.Map d ∷ ls) ts p = absurd p
 item_fits c expects.Nothing (lev.Map d ∷ ls) ts p = absurd p
 item_fits c e (lev.Sequence d ∷ ls) ts p = in_sequence_at (d == c) refl p
   where
-    push_at : (e : Expects) → Changed (push_if (is_value e && nat_lt d c) (lev.Sequence c)) (nest_at e (lev.Sequence d ∷ ls) []) ts
+    push_at : (e : Expects) → Changed (then_some (is_value e && nat_lt d c) (change.Push (lev.Sequence c))) (nest_at e (lev.Sequence d ∷ ls) []) ts
         → LeftAt e (lev.Sequence d ∷ ls) [] (token.Item c ∷ ts)
     push_at expects.Value p =
-        let q = push_fits (nat_lt d c) (lev.Sequence c) expects.Value (lev.Sequence d ∷ ls) ts p in
+        let q = changes (nat_lt d c) (change.Push (lev.Sequence c)) (nest_at expects.Value (lev.Sequence d ∷ ls) []) ts p in
         sequence_node (lev.Sequence d ∷ ls) c ts (less d c q.0) q.1
-    push_at expects.Entry p = absurd p
-    push_at expects.Nothing p = absurd p
+    push_at _ p = absurd p
 
     in_sequence_at : (t : Bool) → (d == c) ≡ t
-        → Changed (cond t (Some (change.Expect expects.Value)) (push_if (is_value e && nat_lt d c) (lev.Sequence c))) (nest_at e (lev.Sequence d ∷ ls) []) ts
+        → Changed (cond t (Some (change.Expect expects.Value)) (then_some (is_value e && nat_lt d c) (change.Push (lev.Sequence c)))) (nest_at e (lev.Sequence d ∷ ls) []) ts
         → LeftAt e (lev.Sequence d ∷ ls) [] (token.Item c ∷ ts)
-    in_sequence_at true same p =
-        let P : ℕ → Type 0 = λ n. LeftAt e (lev.Sequence d ∷ ls) [] (token.Item n ∷ ts) in
-        subst P (same_of d c same) (null_value e (lev.Sequence d ∷ ls) (token.Item d ∷ ts) (next_item ls d ts p))
+    in_sequence_at true same p = rw (← same_of d c same) (null_value e (lev.Sequence d ∷ ls) (token.Item d ∷ ts) (next_item ls d ts p))
     in_sequence_at false same p = push_at e p
 
 -- ---- keys
@@ -174,33 +162,30 @@ key_fits c expects.Value [] ts p = map_node [] c ts tt p
 key_fits c expects.Entry [] ts p = absurd p
 key_fits c expects.Nothing [] ts p = absurd p
 key_fits c expects.Value (lev.Sequence d ∷ ls) ts p =
-    let q = push_fits (nat_lt d c) (lev.Map c) expects.Value (lev.Sequence d ∷ ls) ts p in map_node (lev.Sequence d ∷ ls) c ts (less d c q.0) q.1
+    let q = changes (nat_lt d c) (change.Push (lev.Map c)) (nest_at expects.Value (lev.Sequence d ∷ ls) []) ts p in map_node (lev.Sequence d ∷ ls) c ts (less d c q.0) q.1
 key_fits c expects.Entry (lev.Sequence d ∷ ls) ts p = absurd p
 key_fits c expects.Nothing (lev.Sequence d ∷ ls) ts p = absurd p
 key_fits c e (lev.Map d ∷ ls) ts p = in_map_at (d == c) refl p
   where
-    push_at : (e : Expects) → Changed (push_if (is_value e && nat_lt d c) (lev.Map c)) (nest_at e (lev.Map d ∷ ls) []) ts → LeftAt e (lev.Map d ∷ ls) [] (token.Key c ∷ ts)
-    push_at expects.Value p = let q = push_fits (nat_lt d c) (lev.Map c) expects.Value (lev.Map d ∷ ls) ts p in map_node (lev.Map d ∷ ls) c ts (less d c q.0) q.1
-    push_at expects.Entry p = absurd p
-    push_at expects.Nothing p = absurd p
+    push_at : (e : Expects) → Changed (then_some (is_value e && nat_lt d c) (change.Push (lev.Map c))) (nest_at e (lev.Map d ∷ ls) []) ts → LeftAt e (lev.Map d ∷ ls) [] (token.Key c ∷ ts)
+    push_at expects.Value p = let q = changes (nat_lt d c) (change.Push (lev.Map c)) (nest_at expects.Value (lev.Map d ∷ ls) []) ts p in map_node (lev.Map d ∷ ls) c ts (less d c q.0) q.1
+    push_at _ p = absurd p
 
     in_map_at : (t : Bool) → (d == c) ≡ t
-        → Changed (cond t (Some (change.Expect expects.Value)) (push_if (is_value e && nat_lt d c) (lev.Map c))) (nest_at e (lev.Map d ∷ ls) []) ts
+        → Changed (cond t (Some (change.Expect expects.Value)) (then_some (is_value e && nat_lt d c) (change.Push (lev.Map c)))) (nest_at e (lev.Map d ∷ ls) []) ts
         → LeftAt e (lev.Map d ∷ ls) [] (token.Key c ∷ ts)
-    in_map_at true same p =
-        let P : ℕ → Type 0 = λ n. LeftAt e (lev.Map d ∷ ls) [] (token.Key n ∷ ts) in
-        subst P (same_of d c same) (null_value e (lev.Map d ∷ ls) (token.Key d ∷ ts) (next_key ls d ts p))
+    in_map_at true same p = rw (← same_of d c same) (null_value e (lev.Map d ∷ ls) (token.Key d ∷ ts) (next_key ls d ts p))
     in_map_at false same p = push_at e p
 
 -- an entry in brackets, and what follows it
-entry_inside : (ls : List Level) (k : Bracket) (bs : List Bracket) (ts more : List Token) → HasEntry k ts more → Behind ls (k ∷ bs) more → Inside ls (k ∷ bs) ts
+entry_inside : (ls : List Level) (k : Bracket) (bs : List Bracket) (ts more : List Token) → HasEntry k ts more → AfterValue ls (k ∷ bs) more → Inside ls (k ∷ bs) ts
 entry_inside ls k bs ts _ f (closes b) = both (last_entry f) b
 entry_inside ls k bs ts _ f (goes_on i b) = both (more_entries f i) b
 
 member_inside : (ls : List Level) (bs : List Bracket) (c : ℕ) (ts : List Token) → Waiting ls (bracket.Map ∷ bs) ts → Inside ls (bracket.Map ∷ bs) (token.Key c ∷ ts)
 member_inside ls bs c ts (both {rest} f b) = entry_inside ls bracket.Map bs (token.Key c ∷ ts) rest (member f) b
 
-key_at_fits : (c : ℕ) (e : Expects) (ls : List Level) (bs : List Bracket) (ts : List Token) → Changed (key_at c e (head_of ls) (head_of bs)) (nest_at e ls bs) ts
+key_at_fits : (c : ℕ) (e : Expects) (ls : List Level) (bs : List Bracket) (ts : List Token) → Changed (change_of (token.Key c) e (head_of ls) (head_of bs)) (nest_at e ls bs) ts
     → LeftAt e ls bs (token.Key c ∷ ts)
 key_at_fits c e ls [] ts p = key_fits c e ls ts p
 key_at_fits c e ls (bracket.List ∷ bs) ts p = absurd p
@@ -208,7 +193,7 @@ key_at_fits c expects.Value ls (bracket.Map ∷ bs) ts p = absurd p
 key_at_fits c expects.Nothing ls (bracket.Map ∷ bs) ts p = absurd p
 key_at_fits c expects.Entry ls (bracket.Map ∷ bs) ts p = member_inside ls bs c ts p
 
-item_at_fits : (c : ℕ) (e : Expects) (ls : List Level) (bs : List Bracket) (ts : List Token) → Changed (item_at c e (head_of ls) (head_of bs)) (nest_at e ls bs) ts
+item_at_fits : (c : ℕ) (e : Expects) (ls : List Level) (bs : List Bracket) (ts : List Token) → Changed (change_of (token.Item c) e (head_of ls) (head_of bs)) (nest_at e ls bs) ts
     → LeftAt e ls bs (token.Item c ∷ ts)
 item_at_fits c e ls [] ts p = item_fits c e ls ts p
 item_at_fits c e ls (k ∷ bs) ts p = absurd p
@@ -217,7 +202,7 @@ item_at_fits c e ls (k ∷ bs) ts p = absurd p
 
 -- a value that is one token or begins with one, at a column
 holds_fits : (c : ℕ) (e : Expects) (ls : List Level) (t : Token) (ts more : List Token) → holds c e (head_of ls) ≡ true → ((least : ℕ) → least ≤ c → HasNode least (t ∷ ts) more)
-    → BehindLevels ls more → LeftAt e ls [] (t ∷ ts)
+    → AfterBlock ls more → LeftAt e ls [] (t ∷ ts)
 holds_fits c expects.Value [] t ts more h f b = a_node [] c (t ∷ ts) more tt f b
 holds_fits c expects.Value (lev.Map d ∷ ls) t ts more h f b = a_node (lev.Map d ∷ ls) c (t ∷ ts) more (less d c h) f b
 holds_fits c expects.Value (lev.Sequence d ∷ ls) t ts more h f b = a_node (lev.Sequence d ∷ ls) c (t ∷ ts) more (less d c h) f b
@@ -228,7 +213,7 @@ holds_fits c expects.Nothing (lev.Map d ∷ ls) t ts more h f b = cc
 holds_fits c expects.Nothing (lev.Sequence d ∷ ls) t ts more h f b = cc
 
 -- the same in brackets
-holds_in_fits : (e : Expects) (ls : List Level) (k : Bracket) (bs : List Bracket) (ts more : List Token) → holds_in e k ≡ true → HasFlow ts more → Behind ls (k ∷ bs) more
+holds_in_fits : (e : Expects) (ls : List Level) (k : Bracket) (bs : List Bracket) (ts more : List Token) → holds_in e k ≡ true → HasFlow ts more → AfterValue ls (k ∷ bs) more
     → LeftAt e ls (k ∷ bs) ts
 holds_in_fits expects.Entry ls bracket.List bs ts more h f b = entry_inside ls bracket.List bs ts more (element f) b
 holds_in_fits expects.Value ls bracket.Map bs ts more h f b = both f b
@@ -237,64 +222,60 @@ holds_in_fits expects.Nothing ls bracket.List bs ts more h f b = cc
 holds_in_fits expects.Entry ls bracket.Map bs ts more h f b = cc
 holds_in_fits expects.Nothing ls bracket.Map bs ts more h f b = cc
 
-levels_behind : (ls : List Level) (ts : List Token) → Behind ls [] ts → BehindLevels ls ts
-levels_behind ls ts (no_bracket b) = b
+block_of : (ls : List Level) (ts : List Token) → AfterValue ls [] ts → AfterBlock ls ts
+block_of ls ts (no_bracket b) = b
 
 scalar_fits : (c : ℕ) (e : Expects) (ls : List Level) (bs : List Bracket) (ts : List Token)
-    → Changed (expect_if (holds_at c e (head_of ls) (head_of bs)) expects.Nothing) (nest_at e ls bs) ts → LeftAt e ls bs (token.Scalar c ∷ ts)
+    → Changed (change_of (token.Scalar c) e (head_of ls) (head_of bs)) (nest_at e ls bs) ts → LeftAt e ls bs (token.Scalar c ∷ ts)
 scalar_fits c e ls [] ts p =
-    let q = expect_fits (holds c e (head_of ls)) expects.Nothing e ls [] ts p in
-    holds_fits c e ls (token.Scalar c) ts ts q.0 (λ least le. a_scalar le) (levels_behind ls ts q.1)
+    let q = changes (holds c e (head_of ls)) (change.Expect expects.Nothing) (nest_at e ls []) ts p in
+    holds_fits c e ls (token.Scalar c) ts ts q.0 (λ least le. a_scalar le) (block_of ls ts q.1)
 scalar_fits c e ls (k ∷ bs) ts p =
-    let q = expect_fits (holds_in e k) expects.Nothing e ls (k ∷ bs) ts p in holds_in_fits e ls k bs (token.Scalar c ∷ ts) ts q.0 flow_scalar q.1
+    let q = changes (holds_in e k) (change.Expect expects.Nothing) (nest_at e ls (k ∷ bs)) ts p in holds_in_fits e ls k bs (token.Scalar c ∷ ts) ts q.0 flow_scalar q.1
 
-open_block : (c : ℕ) (e : Expects) (ls : List Level) (own : Bracket) (ts : List Token) → holds c e (head_of ls) ≡ true → Then (HasInside own) (Behind ls []) ts
+open_block : (c : ℕ) (e : Expects) (ls : List Level) (own : Bracket) (ts : List Token) → holds c e (head_of ls) ≡ true → Then (HasInside own) (AfterValue ls []) ts
     → LeftAt e ls [] (token.Open own c ∷ ts)
-open_block c e ls own ts h (both {rest} i b) = holds_fits c e ls (token.Open own c) ts rest h (λ least le. brackets le i) (levels_behind ls rest b)
+open_block c e ls own ts h (both {rest} i b) = holds_fits c e ls (token.Open own c) ts rest h (λ least le. brackets le i) (block_of ls rest b)
 
 open_inside : (c : ℕ) (e : Expects) (ls : List Level) (k : Bracket) (bs : List Bracket) (own : Bracket) (ts : List Token) → holds_in e k ≡ true
-    → Then (HasInside own) (Behind ls (k ∷ bs)) ts → LeftAt e ls (k ∷ bs) (token.Open own c ∷ ts)
+    → Then (HasInside own) (AfterValue ls (k ∷ bs)) ts → LeftAt e ls (k ∷ bs) (token.Open own c ∷ ts)
 open_inside c e ls k bs own ts h (both {rest} i b) = holds_in_fits e ls k bs (token.Open own c ∷ ts) rest h (flow_open i) b
 
 opened_fits : (own : Bracket) (c : ℕ) (e : Expects) (ls : List Level) (bs : List Bracket) (ts : List Token)
-    → Changed (open_if (holds_at c e (head_of ls) (head_of bs)) own) (nest_at e ls bs) ts → LeftAt e ls bs (token.Open own c ∷ ts)
-opened_fits own c e ls [] ts p = let q = open_fits (holds c e (head_of ls)) own e ls [] ts p in open_block c e ls own ts q.0 q.1
-opened_fits own c e ls (k ∷ bs) ts p = let q = open_fits (holds_in e k) own e ls (k ∷ bs) ts p in open_inside c e ls k bs own ts q.0 q.1
+    → Changed (change_of (token.Open own c) e (head_of ls) (head_of bs)) (nest_at e ls bs) ts → LeftAt e ls bs (token.Open own c ∷ ts)
+opened_fits own c e ls [] ts p = let q = changes (holds c e (head_of ls)) (change.Open own) (nest_at e ls []) ts p in open_block c e ls own ts q.0 q.1
+opened_fits own c e ls (k ∷ bs) ts p = let q = changes (holds_in e k) (change.Open own) (nest_at e ls (k ∷ bs)) ts p in open_inside c e ls k bs own ts q.0 q.1
 
 -- ---- the end of brackets, a comma, and another document
 
-close_if_fits : (k : Bracket) (e : Expects) (ls : List Level) (bs : List Bracket) (ts : List Token) → Changed (close_if e) (nest_at e ls (k ∷ bs)) ts
+close_if_fits : (k : Bracket) (e : Expects) (ls : List Level) (bs : List Bracket) (ts : List Token) → Changed (then_some (not (is_value e)) change.Close) (nest_at e ls (k ∷ bs)) ts
     → LeftAt e ls (k ∷ bs) (token.Close k ∷ ts)
 close_if_fits k expects.Value ls bs ts p = absurd p
 close_if_fits k expects.Entry ls bs ts p = both closed p
 close_if_fits k expects.Nothing ls bs ts p = closes p
 
-close_fits : (own : Bracket) (e : Expects) (ls : List Level) (bs : List Bracket) (ts : List Token) → Changed (close_change own e (head_of bs)) (nest_at e ls bs) ts
+close_fits : (own : Bracket) (e : Expects) (ls : List Level) (bs : List Bracket) (ts : List Token) → Changed (change_of (token.Close own) e (head_of ls) (head_of bs)) (nest_at e ls bs) ts
     → LeftAt e ls bs (token.Close own ∷ ts)
-close_fits bracket.List e ls [] ts p = absurd p
-close_fits bracket.Map e ls [] ts p = absurd p
 close_fits bracket.List e ls (bracket.List ∷ bs) ts p = close_if_fits bracket.List e ls bs ts p
 close_fits bracket.Map e ls (bracket.Map ∷ bs) ts p = close_if_fits bracket.Map e ls bs ts p
-close_fits bracket.List e ls (bracket.Map ∷ bs) ts p = absurd p
-close_fits bracket.Map e ls (bracket.List ∷ bs) ts p = absurd p
+close_fits _ e ls _ ts p = absurd p
 
-comma_fits : (e : Expects) (ls : List Level) (bs : List Bracket) (ts : List Token) → Changed (comma_change e (head_of bs)) (nest_at e ls bs) ts
+comma_fits : (e : Expects) (ls : List Level) (bs : List Bracket) (ts : List Token) → Changed (change_of token.Comma e (head_of ls) (head_of bs)) (nest_at e ls bs) ts
     → LeftAt e ls bs (token.Comma ∷ ts)
 comma_fits e ls [] ts p = absurd p
-comma_fits expects.Value ls (k ∷ bs) ts p = absurd p
-comma_fits expects.Entry ls (k ∷ bs) ts p = absurd p
 comma_fits expects.Nothing ls (k ∷ bs) ts (both i b) = goes_on i b
+comma_fits _ ls (k ∷ bs) ts p = absurd p
 
 pub documents_of : (ts : List Token) → Waiting [] [] ts → IsDocuments ts
 documents_of ts (both n all_closed) = last_document n
 documents_of ts (both n (before_marker d)) = more_documents n d
 
-all_end : (ls : List Level) (ts : List Token) → BehindLevels [] ts → BehindLevels ls ts
+all_end : (ls : List Level) (ts : List Token) → AfterBlock [] ts → AfterBlock ls ts
 all_end [] ts b = b
 all_end (lev.Map c ∷ ls) ts b = in_map no_key (all_end ls ts b)
 all_end (lev.Sequence c ∷ ls) ts b = in_sequence no_item (all_end ls ts b)
 
-marker_fits : (e : Expects) (ls : List Level) (bs : List Bracket) (ts : List Token) → Changed (marker_change (head_of bs)) (nest_at e ls bs) ts
+marker_fits : (e : Expects) (ls : List Level) (bs : List Bracket) (ts : List Token) → Changed (change_of token.Marker e (head_of ls) (head_of bs)) (nest_at e ls bs) ts
     → LeftAt e ls bs (token.Marker ∷ ts)
 marker_fits e ls [] ts p = null_value e ls (token.Marker ∷ ts) (all_end ls (token.Marker ∷ ts) (before_marker (documents_of ts p)))
 marker_fits e ls (k ∷ bs) ts p = absurd p
@@ -314,7 +295,7 @@ taken_fits : (t : Token) (n : Nest) (ts : List Token) → Fits (taken t n) ts �
 taken_fits t n ts p = taken_at t n.awaited n.levels n.brackets ts p
 
 -- one level less
-one_ends : (l : Level) (ls : List Level) (ts : List Token) → BehindLevels ls ts → BehindLevels (l ∷ ls) ts
+one_ends : (l : Level) (ls : List Level) (ts : List Token) → AfterBlock ls ts → AfterBlock (l ∷ ls) ts
 one_ends (lev.Map c) ls ts b = in_map no_key b
 one_ends (lev.Sequence c) ls ts b = in_sequence no_item b
 
@@ -323,9 +304,9 @@ unfolding unwound_from
 unwound_fits [] c is_item e ts p = p
 unwound_fits (l ∷ ls) c is_item e ts p = by_test (is_over l c is_item) (λ q. unwound_fits ls c is_item expects.Nothing ts q) p
   where
-    by_test : (t : Bool) → (Left (unwound_from c is_item expects.Nothing ls []) ts → Behind ls [] ts)
+    by_test : (t : Bool) → (Left (unwound_from c is_item expects.Nothing ls []) ts → AfterValue ls [] ts)
         → Left (cond t (unwound_from c is_item expects.Nothing ls []) (nest_at e (l ∷ ls) [])) ts → LeftAt e (l ∷ ls) [] ts
-    by_test true less_one p = null_value e (l ∷ ls) ts (one_ends l ls ts (levels_behind ls ts (less_one p)))
+    by_test true less_one p = null_value e (l ∷ ls) ts (one_ends l ls ts (block_of ls ts (less_one p)))
     by_test false less_one p = p
 
 settled_fits : (t : Bool) (c : ℕ) (is_item : Bool) (e : Expects) (ls : List Level) (ts : List Token)
@@ -337,17 +318,11 @@ if_fits : (t : Bool) (n : Nest) (ts : List Token) → Fits (cond t (Some n) None
 if_fits true n ts p = p
 if_fits false n ts p = absurd p
 
-begun_fits : (c : ℕ) (e : Expects) (ls : List Level) (bs : List Bracket) (ts : List Token) → Fits (begun c (nest_at e ls bs)) ts → LeftAt e ls bs ts
-begun_fits c e ls [] ts p =
-    let n = settled c false (nest_at e ls []) in
-    settled_fits (holds c e (head_of ls)) c false e ls ts (if_fits (may_begin c n.awaited (head_of n.levels)) n ts p)
-begun_fits c e ls (k ∷ bs) ts p = absurd p
-
-dashed_fits : (c : ℕ) (e : Expects) (ls : List Level) (bs : List Bracket) (ts : List Token) → Fits (dashed c (nest_at e ls bs)) ts → LeftAt e ls bs ts
-dashed_fits c e ls [] ts p =
-    let n = settled c true (nest_at e ls []) in
-    settled_fits (holds c e (head_of ls)) c true e ls ts (if_fits (may_dash c n.awaited (head_of n.levels)) n ts p)
-dashed_fits c e ls (k ∷ bs) ts p = absurd p
+begun_fits : (c : ℕ) (is_item : Bool) (e : Expects) (ls : List Level) (bs : List Bracket) (ts : List Token) → Fits (begun c is_item (nest_at e ls bs)) ts → LeftAt e ls bs ts
+begun_fits c is_item e ls [] ts p =
+    let n = settled c is_item (nest_at e ls []) in
+    settled_fits (holds c e (head_of ls)) c is_item e ls ts (if_fits (may_begin c is_item n.awaited (head_of n.levels)) n ts p)
+begun_fits c is_item e ls (k ∷ bs) ts p = absurd p
 
 taken_item_fits : (c : ℕ) (e : Expects) (ls : List Level) (bs : List Bracket) (ts : List Token) → Fits (taken_item c (nest_at e ls bs)) ts → LeftAt e ls bs (token.Item c ∷ ts)
 taken_item_fits c e ls [] ts p = settled_fits (holds c e (head_of ls)) c true e ls (token.Item c ∷ ts) (taken_fits (token.Item c) (settled c true (nest_at e ls [])) ts p)
@@ -370,8 +345,8 @@ enter_fits false n ts p = p
 
 pub happened_fits : (e : Event) (n : Nest) (ts : List Token) → Fits (happened e n) ts → Left n (tokens_of e ++ ts)
 happened_fits event.Nothing n ts p = p
-happened_fits (event.Begin c) n ts p = begun_fits c n.awaited n.levels n.brackets ts p
-happened_fits (event.Dash c) n ts p = dashed_fits c n.awaited n.levels n.brackets ts p
+happened_fits (event.Begin c) n ts p = begun_fits c false n.awaited n.levels n.brackets ts p
+happened_fits (event.Dash c) n ts p = begun_fits c true n.awaited n.levels n.brackets ts p
 happened_fits event.Enter n ts p = enter_fits (is_nothing n.awaited) n ts p
 happened_fits (event.Item c) n ts p = taken_item_fits c n.awaited n.levels n.brackets ts p
 happened_fits (event.One t) n ts p = taken_fits t n ts p

@@ -23,7 +23,7 @@ pub data Tree : Type 0 where
 abbrev pub Part : Type 1
 Part = (before part after : List ℕ) → Type 0
 
--- so many parts, one after another
+-- this many parts, one after another
 abbrev pub Turns : Part → ℕ → Part
 Turns Turn zero before part after = part ≡ []
 Turns Turn (suc n) before part after =

@@ -6,7 +6,7 @@ use crate::machine::{Machine, first_mistake};
 use crate::mistake::Mistake;
 
 /// A place in a record, with the number of fields before its field.
-#[derive(Clone, Copy, Debug, PartialEq, Eq)]
+#[derive(Clone, Copy)]
 pub enum Place {
     /// The start of a record.
     Start,
@@ -23,14 +23,14 @@ pub enum Place {
 }
 
 /// The machine: how many columns there are, and a place.
-#[derive(Clone, Copy, Debug, PartialEq, Eq)]
+#[derive(Clone, Copy)]
 pub struct Csv {
     pub columns: u32,
     pub place: Place,
 }
 
 /// The kinds of bytes that CSV distinguishes.
-#[derive(Clone, Copy, Debug, PartialEq, Eq)]
+#[derive(Drop)]
 pub enum Sign {
     Null,
     Newline,
@@ -72,101 +72,37 @@ fn next_field(columns: u32, fields: u32) -> Option<Place>
     }
 }
 
-/// After the last field of a record, at the next place.
-fn if_last(columns: u32, fields: u32, next: Place) -> Option<Place>
-    ensures { result ≡ computed.if_last columns fields next }
-{
-    if is_last(columns, fields) {
-        Some(next)
-    } else {
-        None
-    }
-}
-
 /// Where a field may end.
 fn after_field(columns: u32, fields: u32, sign: Sign) -> Option<Place>
     ensures { result ≡ computed.after_field columns fields sign }
 {
     match sign {
         Sign::Comma => next_field(columns, fields),
-        Sign::Newline => if_last(columns, fields, Place::Start),
-        Sign::Return => if_last(columns, fields, Place::Return),
+        Sign::Newline => is_last(columns, fields).then_some(Place::Start),
+        Sign::Return => is_last(columns, fields).then_some(Place::Return),
         _ => None,
     }
 }
 
-/// In a field without quotes.
-fn after_bare(columns: u32, fields: u32, sign: Sign) -> Option<Place>
-    ensures { result ≡ computed.after_bare columns fields sign }
-{
-    match sign {
-        Sign::Other => Some(Place::Bare(fields)),
-        _ => after_field(columns, fields, sign),
-    }
-}
-
-/// Where a field begins.
-fn at_field(columns: u32, fields: u32, sign: Sign) -> Option<Place>
-    ensures { result ≡ computed.at_field columns fields sign }
-{
-    match sign {
-        Sign::Quote => Some(Place::Quoted(fields)),
-        _ => after_bare(columns, fields, sign),
-    }
-}
-
-/// Where a record begins.
-fn after_start(columns: u32, sign: Sign) -> Option<Place>
-    ensures { result ≡ computed.after_start columns sign }
-{
-    match sign {
-        Sign::Newline | Sign::Return => None,
-        _ => at_field(columns, 0, sign),
-    }
-}
-
-/// Between quotes.
-fn after_quoted(fields: u32, sign: Sign) -> Option<Place>
-    ensures { result ≡ computed.after_quoted fields sign }
-{
-    match sign {
-        Sign::Null => None,
-        Sign::Quote => Some(Place::Quote(fields)),
-        _ => Some(Place::Quoted(fields)),
-    }
-}
-
-/// After a quote in a field between quotes.
-fn after_quote(columns: u32, fields: u32, sign: Sign) -> Option<Place>
-    ensures { result ≡ computed.after_quote columns fields sign }
-{
-    match sign {
-        Sign::Quote => Some(Place::Quoted(fields)),
-        _ => after_field(columns, fields, sign),
-    }
-}
-
-/// After a carriage return.
-fn after_return(sign: Sign) -> Option<Place>
-    ensures { result ≡ computed.after_return sign }
-{
-    match sign {
-        Sign::Newline => Some(Place::Start),
-        _ => None,
-    }
-}
-
-/// What is read from a place on.
+/// What a byte of a kind leads to.
 fn after_sign(columns: u32, place: Place, sign: Sign) -> Option<Place>
     ensures { result ≡ computed.after_sign columns place sign }
 {
-    match place {
-        Place::Start => after_start(columns, sign),
-        Place::Field(fields) => at_field(columns, fields, sign),
-        Place::Bare(fields) => after_bare(columns, fields, sign),
-        Place::Quoted(fields) => after_quoted(fields, sign),
-        Place::Quote(fields) => after_quote(columns, fields, sign),
-        Place::Return => after_return(sign),
+    match (place, sign) {
+        (Place::Start, Sign::Quote) => Some(Place::Quoted(0)),
+        (Place::Start, Sign::Other) => Some(Place::Bare(0)),
+        (Place::Start, Sign::Comma) => next_field(columns, 0),
+        (Place::Field(fields), Sign::Quote) => Some(Place::Quoted(fields)),
+        (Place::Field(fields) | Place::Bare(fields), Sign::Other) => Some(Place::Bare(fields)),
+        (Place::Quoted(_), Sign::Null) => None,
+        (Place::Quoted(fields), Sign::Quote) => Some(Place::Quote(fields)),
+        (Place::Quoted(fields), _) => Some(Place::Quoted(fields)),
+        (Place::Quote(fields), Sign::Quote) => Some(Place::Quoted(fields)),
+        (Place::Return, Sign::Newline) => Some(Place::Start),
+        (Place::Field(fields) | Place::Bare(fields) | Place::Quote(fields), sign) => {
+            after_field(columns, fields, sign)
+        }
+        _ => None,
     }
 }
 
@@ -177,10 +113,8 @@ impl Machine for Csv {
 
     fn step(self, byte: u8) -> Option<Csv> {
         let columns = self.columns;
-        match after_sign(columns, self.place, sign_of(byte)) {
-            Some(place) => Some(Csv { columns, place }),
-            None => None,
-        }
+        let place = after_sign(columns, self.place, sign_of(byte))?;
+        Some(Csv { columns, place })
     }
 
     fn ends(self) -> bool {

@@ -6,7 +6,7 @@ use crate::machine::{Machine, first_mistake};
 use crate::mistake::Mistake;
 
 /// What was read last of an environment file.
-#[derive(Clone, Copy, Debug, PartialEq, Eq)]
+#[derive(Clone, Copy)]
 pub enum Control {
     /// Nothing of this line.
     Start,
@@ -27,7 +27,7 @@ pub enum Control {
 }
 
 /// The kinds of bytes that an environment file distinguishes.
-#[derive(Clone, Copy, Debug, PartialEq, Eq)]
+#[derive(Drop)]
 pub enum Sign {
     Null,
     Newline,
@@ -66,101 +66,37 @@ fn sign_of(byte: u8) -> Sign
     }
 }
 
-/// Where a line begins.
-fn after_start(sign: Sign) -> Option<Control>
-    ensures { result ≡ computed.after_start sign }
+/// What a byte of a kind leads to.
+fn after_sign(control: Control, sign: Sign) -> Option<Control>
+    ensures { result ≡ computed.after_sign control sign }
 {
-    match sign {
-        Sign::Newline => Some(Control::Start),
-        Sign::Hash => Some(Control::Comment),
-        Sign::Letter => Some(Control::Name),
-        _ => None,
-    }
-}
-
-/// In a comment.
-fn after_comment(sign: Sign) -> Option<Control>
-    ensures { result ≡ computed.after_comment sign }
-{
-    match sign {
-        Sign::Newline => Some(Control::Start),
-        Sign::Null | Sign::Backslash => None,
-        _ => Some(Control::Comment),
-    }
-}
-
-/// In a name.
-fn after_name(sign: Sign) -> Option<Control>
-    ensures { result ≡ computed.after_name sign }
-{
-    match sign {
-        Sign::Equals => Some(Control::Equals),
-        Sign::Letter | Sign::Digit => Some(Control::Name),
-        _ => None,
-    }
-}
-
-/// In a value without quotes.
-fn after_bare(sign: Sign) -> Option<Control>
-    ensures { result ≡ computed.after_bare sign }
-{
-    match sign {
-        Sign::Newline => Some(Control::Start),
-        Sign::Equals | Sign::Plain | Sign::Letter | Sign::Digit => Some(Control::Bare),
-        _ => None,
-    }
-}
-
-/// Where a value begins.
-fn after_equals(sign: Sign) -> Option<Control>
-    ensures { result ≡ computed.after_equals sign }
-{
-    match sign {
-        Sign::Single => Some(Control::Single),
-        Sign::Double => Some(Control::Double),
-        _ => after_bare(sign),
-    }
-}
-
-/// Between single quotes.
-fn after_single(sign: Sign) -> Option<Control>
-    ensures { result ≡ computed.after_single sign }
-{
-    match sign {
-        Sign::Null => None,
-        Sign::Single => Some(Control::Closed),
-        _ => Some(Control::Single),
-    }
-}
-
-/// Between double quotes.
-fn after_double(sign: Sign) -> Option<Control>
-    ensures { result ≡ computed.after_double sign }
-{
-    match sign {
-        Sign::Null | Sign::Expanding => None,
-        Sign::Double => Some(Control::Closed),
-        Sign::Backslash => Some(Control::Escape),
-        _ => Some(Control::Double),
-    }
-}
-
-/// Behind a backslash.
-fn after_escape(sign: Sign) -> Option<Control>
-    ensures { result ≡ computed.after_escape sign }
-{
-    match sign {
-        Sign::Double | Sign::Backslash | Sign::Expanding => Some(Control::Double),
-        _ => None,
-    }
-}
-
-/// Behind a closing quote.
-fn after_closed(sign: Sign) -> Option<Control>
-    ensures { result ≡ computed.after_closed sign }
-{
-    match sign {
-        Sign::Newline => Some(Control::Start),
+    match (control, sign) {
+        (Control::Start, Sign::Newline) => Some(Control::Start),
+        (Control::Start, Sign::Hash) => Some(Control::Comment),
+        (Control::Start, Sign::Letter) => Some(Control::Name),
+        (Control::Comment, Sign::Newline) => Some(Control::Start),
+        (Control::Comment, Sign::Null | Sign::Backslash) => None,
+        (Control::Comment, _) => Some(Control::Comment),
+        (Control::Name, Sign::Equals) => Some(Control::Equals),
+        (Control::Name, Sign::Letter | Sign::Digit) => Some(Control::Name),
+        (Control::Equals, Sign::Single) => Some(Control::Single),
+        (Control::Equals, Sign::Double) => Some(Control::Double),
+        (Control::Equals | Control::Bare, Sign::Newline) => Some(Control::Start),
+        (
+            Control::Equals | Control::Bare,
+            Sign::Equals | Sign::Plain | Sign::Letter | Sign::Digit,
+        ) => Some(Control::Bare),
+        (Control::Single, Sign::Null) => None,
+        (Control::Single, Sign::Single) => Some(Control::Closed),
+        (Control::Single, _) => Some(Control::Single),
+        (Control::Double, Sign::Null | Sign::Expanding) => None,
+        (Control::Double, Sign::Double) => Some(Control::Closed),
+        (Control::Double, Sign::Backslash) => Some(Control::Escape),
+        (Control::Double, _) => Some(Control::Double),
+        (Control::Escape, Sign::Double | Sign::Backslash | Sign::Expanding) => Some(
+            Control::Double,
+        ),
+        (Control::Closed, Sign::Newline) => Some(Control::Start),
         _ => None,
     }
 }
@@ -171,18 +107,7 @@ impl Machine for Control {
     ghost may_end = { computed.ends };
 
     fn step(self, byte: u8) -> Option<Control> {
-        let sign = sign_of(byte);
-        match self {
-            Control::Start => after_start(sign),
-            Control::Comment => after_comment(sign),
-            Control::Name => after_name(sign),
-            Control::Equals => after_equals(sign),
-            Control::Bare => after_bare(sign),
-            Control::Single => after_single(sign),
-            Control::Double => after_double(sign),
-            Control::Escape => after_escape(sign),
-            Control::Closed => after_closed(sign),
-        }
+        after_sign(self, sign_of(byte))
     }
 
     fn ends(self) -> bool {

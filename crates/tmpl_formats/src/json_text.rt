@@ -9,21 +9,21 @@ use crate::mistake::Mistake;
 use std::alloc::{AllocError, Global};
 
 /// An array or an object that is open.
-#[derive(Clone, Copy, Debug, PartialEq, Eq)]
+#[derive(Clone, Copy)]
 pub enum Open {
     Array,
     Object,
 }
 
 /// What a string is.
-#[derive(Clone, Copy, Debug, PartialEq, Eq)]
+#[derive(Clone, Copy)]
 pub enum Role {
     Value,
     Key,
 }
 
 /// A place in an escape.
-#[derive(Clone, Copy, Debug, PartialEq, Eq)]
+#[derive(Clone, Copy)]
 pub enum Escape {
     Backslash,
     /// The first digit of a code unit.
@@ -46,7 +46,7 @@ pub enum Escape {
 }
 
 /// The letters of a literal that are left.
-#[derive(Clone, Copy, Debug, PartialEq, Eq)]
+#[derive(Clone, Copy)]
 pub enum Literal {
     Rue,
     Ue,
@@ -60,7 +60,7 @@ pub enum Literal {
 }
 
 /// A place in a number.
-#[derive(Clone, Copy, Debug, PartialEq, Eq)]
+#[derive(Clone, Copy)]
 pub enum Number {
     Minus,
     Zero,
@@ -73,7 +73,7 @@ pub enum Number {
 }
 
 /// A place in a text.
-#[derive(Clone, Copy, Debug, PartialEq, Eq)]
+#[derive(Clone, Copy)]
 pub enum Control {
     /// A value.
     Value,
@@ -93,7 +93,7 @@ pub enum Control {
 }
 
 /// The kinds of bytes that JSON distinguishes.
-#[derive(Clone, Copy, Debug, PartialEq, Eq)]
+#[derive(Drop)]
 pub enum Sign {
     Space,
     /// White space other than a space.
@@ -120,7 +120,7 @@ pub enum Sign {
 }
 
 /// What a byte does to a machine.
-#[derive(Clone, Copy, Debug, PartialEq, Eq)]
+#[derive(Drop)]
 pub enum Action {
     To(Control),
     Push(Open, Control),
@@ -227,46 +227,16 @@ fn at_colon(sign: Sign) -> Option<Action>
     }
 }
 
-/// After a comma, by what is open.
-fn after_comma(top: Option<Open>) -> Option<Action>
-    ensures { result ≡ computed.after_comma top }
-{
-    match top {
-        None => None,
-        Some(Open::Array) => Some(Action::To(Control::Value)),
-        Some(Open::Object) => Some(Action::To(Control::Key)),
-    }
-}
-
-/// At the end of an array.
-fn close_array(top: Option<Open>) -> Option<Action>
-    ensures { result ≡ computed.close_array top }
-{
-    match top {
-        Some(Open::Array) => Some(Action::Pop(Control::End)),
-        _ => None,
-    }
-}
-
-/// At the end of an object.
-fn close_object(top: Option<Open>) -> Option<Action>
-    ensures { result ≡ computed.close_object top }
-{
-    match top {
-        Some(Open::Object) => Some(Action::Pop(Control::End)),
-        _ => None,
-    }
-}
-
 /// After a value.
 fn at_end(top: Option<Open>, sign: Sign) -> Option<Action>
     ensures { result ≡ computed.at_end top sign }
 {
-    match sign {
-        Sign::Space | Sign::White => Some(Action::To(Control::End)),
-        Sign::Comma => after_comma(top),
-        Sign::CloseArray => close_array(top),
-        Sign::CloseObject => close_object(top),
+    match (sign, top) {
+        (Sign::Space | Sign::White, _) => Some(Action::To(Control::End)),
+        (Sign::Comma, Some(Open::Array)) => Some(Action::To(Control::Value)),
+        (Sign::Comma, Some(Open::Object)) => Some(Action::To(Control::Key)),
+        (Sign::CloseArray, Some(Open::Array)) => Some(Action::Pop(Control::End)),
+        (Sign::CloseObject, Some(Open::Object)) => Some(Action::Pop(Control::End)),
         _ => None,
     }
 }
@@ -297,11 +267,7 @@ fn at_text(role: Role, sign: Sign) -> Option<Action>
 fn next(passes: bool, control: Control) -> Option<Action>
     ensures { result ≡ computed.next passes control }
 {
-    if passes {
-        Some(Action::To(control))
-    } else {
-        None
-    }
+    passes.then_some(Action::To(control))
 }
 
 /// The value of a hexadecimal digit, and 16 for another byte.
@@ -323,55 +289,18 @@ fn is_short_escape(byte: u8) -> bool
     matches!(byte, b'"' | b'\\' | b'/' | b'b' | b'f' | b'n' | b'r' | b't')
 }
 
-/// The first digit of a code unit: one that begins with `d` may be a surrogate.
-fn after_unit(role: Role, value: u8) -> Option<Action>
-    ensures { result ≡ computed.after_unit role value }
-{
-    if value == 13 {
-        Some(Action::To(Control::Escape(role, Escape::Surrogate)))
-    } else {
-        next(value < 16, Control::Escape(role, Escape::Hex3))
-    }
-}
-
-/// The second digit of a code unit that may be a surrogate.
-fn after_surrogate(role: Role, value: u8) -> Option<Action>
-    ensures { result ≡ computed.after_surrogate role value }
-{
-    if value < 8 {
-        Some(Action::To(Control::Escape(role, Escape::Hex2)))
-    } else {
-        next(value < 12, Control::Escape(role, Escape::High2))
-    }
-}
-
-/// After a backslash in a string.
-fn after_backslash(role: Role, byte: u8) -> Option<Action>
-    ensures { result ≡ computed.after_backslash role byte }
-{
-    if byte == b'u' {
-        Some(Action::To(Control::Escape(role, Escape::Unit)))
-    } else {
-        next(is_short_escape(byte), Control::Text(role))
-    }
-}
-
-/// The second digit of a low surrogate.
-fn is_low(value: u8) -> bool
-    ensures { result ≡ computed.is_low value }
-{
-    (12..16).contains(&value)
-}
-
 /// In an escape.
 fn at_escape(role: Role, escape: Escape, byte: u8) -> Option<Action>
     ensures { result ≡ computed.at_escape role escape byte }
 {
     let value = hex_value(byte);
     match escape {
-        Escape::Backslash => after_backslash(role, byte),
-        Escape::Unit => after_unit(role, value),
-        Escape::Surrogate => after_surrogate(role, value),
+        Escape::Backslash if byte == b'u' => next(true, Control::Escape(role, Escape::Unit)),
+        Escape::Backslash => next(is_short_escape(byte), Control::Text(role)),
+        Escape::Unit if value == 13 => next(true, Control::Escape(role, Escape::Surrogate)),
+        Escape::Unit => next(value < 16, Control::Escape(role, Escape::Hex3)),
+        Escape::Surrogate if value < 8 => next(true, Control::Escape(role, Escape::Hex2)),
+        Escape::Surrogate => next(value < 12, Control::Escape(role, Escape::High2)),
         Escape::Hex3 => next(value < 16, Control::Escape(role, Escape::Hex2)),
         Escape::Hex2 => next(value < 16, Control::Escape(role, Escape::Hex1)),
         Escape::Hex1 => next(value < 16, Control::Text(role)),
@@ -380,7 +309,10 @@ fn at_escape(role: Role, escape: Escape, byte: u8) -> Option<Action>
         Escape::Pair => next(byte == b'\\', Control::Escape(role, Escape::PairUnit)),
         Escape::PairUnit => next(byte == b'u', Control::Escape(role, Escape::Low)),
         Escape::Low => next(value == 13, Control::Escape(role, Escape::LowSecond)),
-        Escape::LowSecond => next(is_low(value), Control::Escape(role, Escape::Hex2)),
+        Escape::LowSecond => next(
+            (12..16).contains(&value),
+            Control::Escape(role, Escape::Hex2),
+        ),
     }
 }
 
@@ -401,103 +333,24 @@ fn at_literal(literal: Literal, byte: u8) -> Option<Action>
     }
 }
 
-/// After a minus.
-fn after_minus(sign: Sign) -> Option<Action>
-    ensures { result ≡ computed.after_minus sign }
-{
-    match sign {
-        Sign::Zero => Some(Action::To(Control::Number(Number::Zero))),
-        Sign::Digit => Some(Action::To(Control::Number(Number::Whole))),
-        _ => None,
-    }
-}
-
-/// After a digit of an exponent.
-fn after_power(top: Option<Open>, sign: Sign) -> Option<Action>
-    ensures { result ≡ computed.after_power top sign }
-{
-    match sign {
-        Sign::Zero | Sign::Digit => Some(Action::To(Control::Number(Number::Power))),
-        _ => at_end(top, sign),
-    }
-}
-
-/// After a digit of a fraction.
-fn after_fraction(top: Option<Open>, sign: Sign) -> Option<Action>
-    ensures { result ≡ computed.after_fraction top sign }
-{
-    match sign {
-        Sign::Zero | Sign::Digit => Some(Action::To(Control::Number(Number::Fraction))),
-        Sign::Exponent => Some(Action::To(Control::Number(Number::Exponent))),
-        _ => at_end(top, sign),
-    }
-}
-
-/// After a zero that begins a number.
-fn after_zero(top: Option<Open>, sign: Sign) -> Option<Action>
-    ensures { result ≡ computed.after_zero top sign }
-{
-    match sign {
-        Sign::Dot => Some(Action::To(Control::Number(Number::Point))),
-        Sign::Exponent => Some(Action::To(Control::Number(Number::Exponent))),
-        _ => at_end(top, sign),
-    }
-}
-
-/// After a digit of the whole part.
-fn after_whole(top: Option<Open>, sign: Sign) -> Option<Action>
-    ensures { result ≡ computed.after_whole top sign }
-{
-    match sign {
-        Sign::Zero | Sign::Digit => Some(Action::To(Control::Number(Number::Whole))),
-        _ => after_zero(top, sign),
-    }
-}
-
-/// After a point.
-fn after_point(sign: Sign) -> Option<Action>
-    ensures { result ≡ computed.after_point sign }
-{
-    match sign {
-        Sign::Zero | Sign::Digit => Some(Action::To(Control::Number(Number::Fraction))),
-        _ => None,
-    }
-}
-
-/// After the sign of an exponent.
-fn after_sign(sign: Sign) -> Option<Action>
-    ensures { result ≡ computed.after_sign sign }
-{
-    match sign {
-        Sign::Zero | Sign::Digit => Some(Action::To(Control::Number(Number::Power))),
-        _ => None,
-    }
-}
-
-/// After the letter of an exponent.
-fn after_exponent(sign: Sign) -> Option<Action>
-    ensures { result ≡ computed.after_exponent sign }
-{
-    match sign {
-        Sign::Plus | Sign::Minus => Some(Action::To(Control::Number(Number::Sign))),
-        _ => after_sign(sign),
-    }
-}
-
 /// In a number.
 fn at_number(number: Number, top: Option<Open>, sign: Sign) -> Option<Action>
     ensures { result ≡ computed.at_number number top sign }
 {
-    match number {
-        Number::Minus => after_minus(sign),
-        Number::Zero => after_zero(top, sign),
-        Number::Whole => after_whole(top, sign),
-        Number::Point => after_point(sign),
-        Number::Fraction => after_fraction(top, sign),
-        Number::Exponent => after_exponent(sign),
-        Number::Sign => after_sign(sign),
-        Number::Power => after_power(top, sign),
-    }
+    let place = match (number, sign) {
+        (Number::Minus, Sign::Zero) => Number::Zero,
+        (Number::Minus, Sign::Digit) => Number::Whole,
+        (Number::Whole, Sign::Zero | Sign::Digit) => Number::Whole,
+        (Number::Zero | Number::Whole, Sign::Dot) => Number::Point,
+        (Number::Point | Number::Fraction, Sign::Zero | Sign::Digit) => Number::Fraction,
+        (Number::Zero | Number::Whole | Number::Fraction, Sign::Exponent) => Number::Exponent,
+        (Number::Exponent, Sign::Plus | Sign::Minus) => Number::Sign,
+        (Number::Exponent | Number::Sign | Number::Power, Sign::Zero | Sign::Digit) =>
+            Number::Power,
+        (Number::Minus | Number::Point | Number::Exponent | Number::Sign, _) => return None,
+        (_, sign) => return at_end(top, sign),
+    };
+    Some(Action::To(Control::Number(place)))
 }
 
 /// What a byte does, or none where no JSON text goes on so.
@@ -522,10 +375,10 @@ fn after(control: Control, top: Option<Open>, byte: u8) -> Option<Action>
 fn ends_number(number: Number) -> bool
     ensures { result ≡ computed.ends_number number }
 {
-    match number {
-        Number::Zero | Number::Whole | Number::Fraction | Number::Power => true,
-        _ => false,
-    }
+    matches!(
+        number,
+        Number::Zero | Number::Whole | Number::Fraction | Number::Power
+    )
 }
 
 /// Whether a value may end there.

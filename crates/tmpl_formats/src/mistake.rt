@@ -19,15 +19,9 @@ pub(crate) fn earlier_of(first: Option<Mistake>, second: Option<Mistake>) -> Opt
         ≡ earlier (option_map (λ m. m.offset) first) (option_map (λ m. m.offset) second) }
 {
     match (first, second) {
-        (Some(a), Some(b)) => {
-            if a.offset < b.offset {
-                Some(a)
-            } else {
-                Some(b)
-            }
-        }
-        (Some(a), None) => Some(a),
-        (None, other) => other,
+        (Some(a), Some(b)) if a.offset < b.offset => Some(a),
+        (_, Some(b)) => Some(b),
+        (first, None) => first,
     }
 }
 

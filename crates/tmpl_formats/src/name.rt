@@ -1,11 +1,11 @@
 //! The names of formats.
 ghost use Rattle.std.specs.Prelude.{◌≡◌, ◌++◌, false, codes, nat_eq, IfOk, IfSome};
 ghost use Rattle.std.specs.List.{starts_with};
-ghost use Rattle.std.specs.Str.{bytes_eq};
 ghost use Rattle.tmpl_formats.specs.Name.{with_digit, columns_of, plain_named, format_named, IsNamed};
 
 use crate::format::Format;
 use crate::pattern::Pattern;
+use crate::yaml_scalar::is_same;
 use std::alloc::{AllocError, Global};
 use std::str::from_utf8;
 
@@ -38,13 +38,6 @@ fn columns_of(digits: &[u8]) -> Option<u32>
     if columns == 0 { None } else { Some(columns) }
 }
 
-/// Whether the bytes are the same.
-fn is_same(name: &[u8], word: &[u8]) -> bool
-    ensures { result ≡ bytes_eq name.now word.now }
-{
-    name == word
-}
-
 /// The format of a name that has no number.
 fn plain_named(name: &[u8]) -> Option<Format>
     ensures { result ≡ plain_named name.now }
@@ -69,10 +62,7 @@ fn simply_named(name: &[u8]) -> Option<Format>
     ensures { result ≡ format_named name.now }
 {
     if name.starts_with(b"csv:") {
-        match columns_of(&name[4..]) {
-            Some(columns) => Some(Format::Csv(columns)),
-            None => None,
-        }
+        Some(Format::Csv(columns_of(&name[4..])?))
     } else {
         plain_named(name)
     }

@@ -6,7 +6,7 @@ use crate::machine::{Machine, first_mistake};
 use crate::mistake::Mistake;
 
 /// A place in a file.
-#[derive(Clone, Copy, Debug, PartialEq, Eq)]
+#[derive(Clone, Copy)]
 pub enum Control {
     /// Before a directive.
     Start,
@@ -33,14 +33,14 @@ pub enum Control {
 }
 
 /// The machine: a place, and how many blocks are open there.
-#[derive(Clone, Copy, Debug, PartialEq, Eq)]
+#[derive(Clone, Copy)]
 pub struct Nginx {
     pub control: Control,
     pub depth: u64,
 }
 
 /// The kinds of bytes that a file distinguishes.
-#[derive(Clone, Copy, Debug, PartialEq, Eq)]
+#[derive(Drop)]
 pub enum Sign {
     Null,
     Newline,
@@ -85,28 +85,6 @@ fn to(control: Control, depth: u64) -> Option<Nginx>
     Some(Nginx { control, depth })
 }
 
-/// A block opens, unless as many are open as a count can hold.
-fn opened(depth: u64) -> Option<Nginx>
-    ensures { result ≡ computed.opened depth }
-{
-    if depth < u64::MAX {
-        to(Control::Start, depth + 1)
-    } else {
-        None
-    }
-}
-
-/// A block closes, if one is open.
-fn closed(depth: u64) -> Option<Nginx>
-    ensures { result ≡ computed.closed depth }
-{
-    if depth == 0 {
-        None
-    } else {
-        to(Control::Start, depth - 1)
-    }
-}
-
 /// Where a word begins.
 fn at_word(depth: u64, sign: Sign) -> Option<Nginx>
     ensures { result ≡ computed.at_word depth sign }
@@ -121,140 +99,40 @@ fn at_word(depth: u64, sign: Sign) -> Option<Nginx>
     }
 }
 
-/// Before a directive.
-fn at_start(depth: u64, sign: Sign) -> Option<Nginx>
-    ensures { result ≡ computed.at_start depth sign }
-{
-    match sign {
-        Sign::Newline | Sign::Gap => to(Control::Start, depth),
-        Sign::Close => closed(depth),
-        Sign::Hash => to(Control::StartComment, depth),
-        _ => at_word(depth, sign),
-    }
-}
-
-/// Where a word may end.
-fn at_tail(depth: u64, sign: Sign) -> Option<Nginx>
-    ensures { result ≡ computed.at_tail depth sign }
-{
-    match sign {
-        Sign::Newline | Sign::Gap => to(Control::Gap, depth),
-        Sign::Semicolon => to(Control::Start, depth),
-        Sign::Open => opened(depth),
-        _ => None,
-    }
-}
-
-/// After a word and a space.
-fn at_gap(depth: u64, sign: Sign) -> Option<Nginx>
-    ensures { result ≡ computed.at_gap depth sign }
-{
-    match sign {
-        Sign::Newline | Sign::Gap => to(Control::Gap, depth),
-        Sign::Semicolon => to(Control::Start, depth),
-        Sign::Open => opened(depth),
-        Sign::Hash => to(Control::GapComment, depth),
-        _ => at_word(depth, sign),
-    }
-}
-
-/// In a word without quotes.
-fn in_word(depth: u64, sign: Sign) -> Option<Nginx>
-    ensures { result ≡ computed.in_word depth sign }
-{
-    match sign {
-        Sign::Null => None,
-        Sign::Newline | Sign::Gap => to(Control::Gap, depth),
-        Sign::Semicolon => to(Control::Start, depth),
-        Sign::Open => opened(depth),
-        Sign::Backslash => to(Control::Escape, depth),
-        Sign::Dollar => to(Control::Dollar, depth),
-        _ => to(Control::Word, depth),
-    }
-}
-
-/// After a `$` in a word without quotes.
-fn after_dollar(depth: u64, sign: Sign) -> Option<Nginx>
-    ensures { result ≡ computed.after_dollar depth sign }
-{
-    match sign {
-        Sign::Open => to(Control::Dollar, depth),
-        _ => in_word(depth, sign),
-    }
-}
-
-/// After a backslash.
-fn unless_null(next: Control, depth: u64, sign: Sign) -> Option<Nginx>
-    ensures { result ≡ computed.unless_null next depth sign }
-{
-    match sign {
-        Sign::Null => None,
-        _ => to(next, depth),
-    }
-}
-
-/// Between double quotes.
-fn in_double(depth: u64, sign: Sign) -> Option<Nginx>
-    ensures { result ≡ computed.in_double depth sign }
-{
-    match sign {
-        Sign::Null => None,
-        Sign::Double => to(Control::Closed, depth),
-        Sign::Backslash => to(Control::DoubleEscape, depth),
-        _ => to(Control::Double, depth),
-    }
-}
-
-/// Between single quotes.
-fn in_single(depth: u64, sign: Sign) -> Option<Nginx>
-    ensures { result ≡ computed.in_single depth sign }
-{
-    match sign {
-        Sign::Null => None,
-        Sign::Single => to(Control::Closed, depth),
-        Sign::Backslash => to(Control::SingleEscape, depth),
-        _ => to(Control::Single, depth),
-    }
-}
-
-/// After a closing quote: a `)` begins a word there.
-fn after_quote(depth: u64, sign: Sign) -> Option<Nginx>
-    ensures { result ≡ computed.after_quote depth sign }
-{
-    match sign {
-        Sign::Parenthesis => to(Control::Word, depth),
-        _ => at_tail(depth, sign),
-    }
-}
-
-/// In a comment.
-fn in_comment(stay: Control, next: Control, depth: u64, sign: Sign) -> Option<Nginx>
-    ensures { result ≡ computed.in_comment stay next depth sign }
-{
-    match sign {
-        Sign::Null => None,
-        Sign::Newline => to(next, depth),
-        _ => to(stay, depth),
-    }
-}
-
-/// What is read from a place on.
+/// What a byte of a kind leads to.
 fn after_sign(control: Control, depth: u64, sign: Sign) -> Option<Nginx>
     ensures { result ≡ computed.after_sign control depth sign }
 {
-    match control {
-        Control::Start => at_start(depth, sign),
-        Control::Gap => at_gap(depth, sign),
-        Control::Word => in_word(depth, sign),
-        Control::Dollar => after_dollar(depth, sign),
-        Control::Escape => unless_null(Control::Word, depth, sign),
-        Control::Double => in_double(depth, sign),
-        Control::DoubleEscape => unless_null(Control::Double, depth, sign),
-        Control::Single => in_single(depth, sign),
-        Control::SingleEscape => unless_null(Control::Single, depth, sign),
-        Control::Closed => after_quote(depth, sign),
-        Control::StartComment => in_comment(Control::StartComment, Control::Start, depth, sign),
-        Control::GapComment => in_comment(Control::GapComment, Control::Gap, depth, sign),
+    match (control, sign) {
+        (_, Sign::Null) => None,
+        (Control::Start, Sign::Newline | Sign::Gap) => to(Control::Start, depth),
+        (Control::Start, Sign::Close) => to(Control::Start, depth.checked_sub(1)?),
+        (Control::Start, Sign::Hash) => to(Control::StartComment, depth),
+        (Control::Start, sign) => at_word(depth, sign),
+        (Control::StartComment, Sign::Newline) => to(Control::Start, depth),
+        (Control::StartComment, _) => to(Control::StartComment, depth),
+        (Control::GapComment, Sign::Newline) => to(Control::Gap, depth),
+        (Control::GapComment, _) => to(Control::GapComment, depth),
+        (Control::Double, Sign::Double) => to(Control::Closed, depth),
+        (Control::Double, Sign::Backslash) => to(Control::DoubleEscape, depth),
+        (Control::Double | Control::DoubleEscape, _) => to(Control::Double, depth),
+        (Control::Single, Sign::Single) => to(Control::Closed, depth),
+        (Control::Single, Sign::Backslash) => to(Control::SingleEscape, depth),
+        (Control::Single | Control::SingleEscape, _) => to(Control::Single, depth),
+        (Control::Escape, _) => to(Control::Word, depth),
+        (Control::Dollar, Sign::Open) => to(Control::Dollar, depth),
+        // a word or a quoted one has ended, or may end
+        (_, Sign::Newline | Sign::Gap) => to(Control::Gap, depth),
+        (_, Sign::Semicolon) => to(Control::Start, depth),
+        (_, Sign::Open) => to(Control::Start, depth.checked_add(1)?),
+        (Control::Gap, Sign::Hash) => to(Control::GapComment, depth),
+        (Control::Gap, sign) => at_word(depth, sign),
+        // a `)` begins a word after a closing quote
+        (Control::Closed, Sign::Parenthesis) => to(Control::Word, depth),
+        (Control::Closed, _) => None,
+        (_, Sign::Backslash) => to(Control::Escape, depth),
+        (_, Sign::Dollar) => to(Control::Dollar, depth),
+        _ => to(Control::Word, depth),
     }
 }
 

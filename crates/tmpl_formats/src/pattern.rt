@@ -7,7 +7,7 @@ ghost use Rattle.tmpl_formats.specs.PatternView.{marks_of};
 use std::alloc::{AllocError, Global};
 
 /// The code points from the first to the last.
-#[derive(Clone, Copy, Debug, PartialEq, Eq)]
+#[derive(Clone, Copy)]
 pub struct Span {
     pub first: u32,
     pub last: u32,
@@ -53,11 +53,7 @@ fn is_within(spans: &[Span], code: u32) -> bool
 pub(crate) fn holds(class: &Class, code: u32) -> bool
     ensures { result ≡ in_class class.now.is_negated class.now.spans.items code }
 {
-    if class.is_negated {
-        !is_within(class.spans.as_slice(), code)
-    } else {
-        is_within(class.spans.as_slice(), code)
-    }
+    is_within(class.spans.as_slice(), code) != class.is_negated
 }
 
 /// A copy of a class.

@@ -10,156 +10,49 @@ use crate::pattern::{Class, Node, Span};
 use crate::pattern_text::{MOST_CODE, Reader, starts};
 use std::alloc::{AllocError, Global};
 
-static DIGITS: [Span; 1] = [Span {
-    first: 48,
-    last: 57,
-}];
+/// Ranges of code points.
+macro_rules! spans {
+    ($($first:literal..=$last:expr),*) => {
+        [$(Span { first: $first, last: $last }),*]
+    };
+}
 
-static NO_DIGITS: [Span; 2] = [
-    Span { first: 0, last: 47 },
-    Span {
-        first: 58,
-        last: MOST_CODE,
-    },
-];
+static DIGITS: [Span; 1] = spans!(48..=57);
 
-static WORD: [Span; 4] = [
-    Span {
-        first: 48,
-        last: 57,
-    },
-    Span {
-        first: 65,
-        last: 90,
-    },
-    Span {
-        first: 95,
-        last: 95,
-    },
-    Span {
-        first: 97,
-        last: 122,
-    },
-];
+static NO_DIGITS: [Span; 2] = spans!(0..=47, 58..=MOST_CODE);
 
-static NO_WORD: [Span; 5] = [
-    Span { first: 0, last: 47 },
-    Span {
-        first: 58,
-        last: 64,
-    },
-    Span {
-        first: 91,
-        last: 94,
-    },
-    Span {
-        first: 96,
-        last: 96,
-    },
-    Span {
-        first: 123,
-        last: MOST_CODE,
-    },
-];
+static WORD: [Span; 4] = spans!(48..=57, 65..=90, 95..=95, 97..=122);
 
-static WHITE: [Span; 10] = [
-    Span { first: 9, last: 13 },
-    Span {
-        first: 32,
-        last: 32,
-    },
-    Span {
-        first: 0xA0,
-        last: 0xA0,
-    },
-    Span {
-        first: 0x1680,
-        last: 0x1680,
-    },
-    Span {
-        first: 0x2000,
-        last: 0x200A,
-    },
-    Span {
-        first: 0x2028,
-        last: 0x2029,
-    },
-    Span {
-        first: 0x202F,
-        last: 0x202F,
-    },
-    Span {
-        first: 0x205F,
-        last: 0x205F,
-    },
-    Span {
-        first: 0x3000,
-        last: 0x3000,
-    },
-    Span {
-        first: 0xFEFF,
-        last: 0xFEFF,
-    },
-];
+static NO_WORD: [Span; 5] = spans!(0..=47, 58..=64, 91..=94, 96..=96, 123..=MOST_CODE);
 
-static NO_WHITE: [Span; 11] = [
-    Span { first: 0, last: 8 },
-    Span {
-        first: 14,
-        last: 31,
-    },
-    Span {
-        first: 33,
-        last: 0x9F,
-    },
-    Span {
-        first: 0xA1,
-        last: 0x167F,
-    },
-    Span {
-        first: 0x1681,
-        last: 0x1FFF,
-    },
-    Span {
-        first: 0x200B,
-        last: 0x2027,
-    },
-    Span {
-        first: 0x202A,
-        last: 0x202E,
-    },
-    Span {
-        first: 0x2030,
-        last: 0x205E,
-    },
-    Span {
-        first: 0x2060,
-        last: 0x2FFF,
-    },
-    Span {
-        first: 0x3001,
-        last: 0xFEFE,
-    },
-    Span {
-        first: 0xFF00,
-        last: MOST_CODE,
-    },
-];
+static WHITE: [Span; 10] = spans!(
+    9..=13,
+    32..=32,
+    0xA0..=0xA0,
+    0x1680..=0x1680,
+    0x2000..=0x200A,
+    0x2028..=0x2029,
+    0x202F..=0x202F,
+    0x205F..=0x205F,
+    0x3000..=0x3000,
+    0xFEFF..=0xFEFF
+);
 
-static LINE_ENDS: [Span; 3] = [
-    Span {
-        first: 10,
-        last: 10,
-    },
-    Span {
-        first: 13,
-        last: 13,
-    },
-    Span {
-        first: 0x2028,
-        last: 0x2029,
-    },
-];
+static NO_WHITE: [Span; 11] = spans!(
+    0..=8,
+    14..=31,
+    33..=0x9F,
+    0xA1..=0x167F,
+    0x1681..=0x1FFF,
+    0x200B..=0x2027,
+    0x202A..=0x202E,
+    0x2030..=0x205E,
+    0x2060..=0x2FFF,
+    0x3001..=0xFEFE,
+    0xFF00..=MOST_CODE
+);
+
+static LINE_ENDS: [Span; 3] = spans!(10..=10, 13..=13, 0x2028..=0x2029);
 
 /// The ends of lines, which `.` does not match.
 pub(crate) fn ends_of_lines() -> &'static [Span]
@@ -189,12 +82,8 @@ impl<'t> Reader<'t> {
         ensures { MatchOption result (self.new.rest.now ≡ self.old.rest.now)
             (λ spans. (c : ℕ) × (self.old.rest.now ≡ c ∷ self.new.rest.now) × IsKind c spans.now) }
     {
-        let Some((first, rest)) = self.rest.split_first() else {
-            return None;
-        };
-        let Some(spans) = kind_of(*first) else {
-            return None;
-        };
+        let (first, rest) = self.rest.split_first()?;
+        let spans = kind_of(*first)?;
         self.rest = rest;
         Some(spans)
     }
@@ -230,10 +119,7 @@ impl<'t> Reader<'t> {
     fn begins_range(&self) -> bool
         ensures { result ≡ has_hyphen self.now.rest.now }
     {
-        match self.rest.split_first() {
-            Some((first, more)) => *first == '-' && !starts(more, ']'),
-            None => false,
-        }
+        matches!(self.rest.split_first(), Some((first, more)) if *first == '-' && !starts(more, ']'))
     }
 
     /// Reads what follows a backslash in a class and stands for one character.
@@ -253,9 +139,7 @@ impl<'t> Reader<'t> {
     fn member(&mut self) -> Option<u32>
         ensures { IfSome result (λ code. HasMember self.old.rest.now code self.new.rest.now) }
     {
-        let Some(c) = self.next() else {
-            return None;
-        };
+        let c = self.next()?;
         if c == '\\' {
             self.escaped_member()
         } else if c == ']' {

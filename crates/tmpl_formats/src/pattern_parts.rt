@@ -20,10 +20,7 @@ pub(crate) struct Times {
 pub(crate) fn is_once(times: Times) -> bool
     ensures { result ≡ true → (times.least ≡ 1) × (times.most ≡ Some 1) }
 {
-    match times.most {
-        Some(most) => times.least == 1 && most == 1,
-        None => false,
-    }
+    times.least == 1 && matches!(times.most, Some(1))
 }
 
 /// Two trees as one.
@@ -174,9 +171,7 @@ impl<'t> Reader<'t> {
     fn counts(&mut self) -> Option<Times>
         ensures { IfSome result (λ times. HasTimes (byte "{" ∷ self.old.rest.now) times.least times.most self.new.rest.now) }
     {
-        let Some(least) = self.number(10) else {
-            return None;
-        };
+        let least = self.number(10)?;
         if self.takes('}') {
             return Some(Times {
                 least,
@@ -189,9 +184,7 @@ impl<'t> Reader<'t> {
         if self.takes('}') {
             return Some(Times { least, most: None });
         }
-        let Some(most) = self.number(10) else {
-            return None;
-        };
+        let most = self.number(10)?;
         if most < least {
             return None;
         }
@@ -209,9 +202,7 @@ impl<'t> Reader<'t> {
     fn times(&mut self) -> Option<Times>
         ensures { IfSome result (λ times. HasTimes self.old.rest.now times.least times.most self.new.rest.now) }
     {
-        let Some(c) = self.next() else {
-            return None;
-        };
+        let c = self.next()?;
         match c {
             '*' => Some(Times {
                 least: 0,
@@ -248,9 +239,7 @@ impl<'t> Reader<'t> {
                 most: Some(1),
             });
         }
-        let Some(times) = self.times() else {
-            return None;
-        };
+        let times = self.times()?;
         if self.takes('?') {
             Some(times)
         } else {

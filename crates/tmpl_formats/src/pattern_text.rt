@@ -19,20 +19,17 @@ pub(crate) struct Reader<'t> {
 pub(crate) fn starts(text: &[char], c: char) -> bool
     ensures { result ≡ begins_with c text.now }
 {
-    match text.split_first() {
-        Some((first, _)) => *first == c,
-        None => false,
-    }
+    matches!(text.split_first(), Some((first, _)) if *first == c)
 }
 
 /// Whether the character has a meaning, which a backslash takes from it.
 pub(crate) fn has_meaning(c: char) -> bool
     ensures { result ≡ is_syntax c }
 {
-    match c {
-        '^' | '$' | '\\' | '.' | '*' | '+' | '?' | '(' | ')' | '[' | ']' | '{' | '}' | '|' => true,
-        _ => false,
-    }
+    matches!(
+        c,
+        '^' | '$' | '\\' | '.' | '*' | '+' | '?' | '(' | ')' | '[' | ']' | '{' | '}' | '|'
+    )
 }
 
 /// Whether a backslash before the character stands for the character itself.
@@ -66,10 +63,7 @@ impl<'t> Reader<'t> {
     fn begins_digit(&self) -> bool
         ensures { result ≡ begins_with_digit self.now.rest.now }
     {
-        match self.rest.split_first() {
-            Some((first, _)) => first.is_ascii_digit(),
-            None => false,
-        }
+        matches!(self.rest.split_first(), Some((first, _)) if first.is_ascii_digit())
     }
 
     /// Reads this character if it is next.
@@ -79,15 +73,11 @@ impl<'t> Reader<'t> {
         ensures begins { result ≡ begins_with c self.old.rest.now }
     {
         match self.rest.split_first() {
-            Some((first, rest)) => {
-                if *first == c {
-                    self.rest = rest;
-                    true
-                } else {
-                    false
-                }
+            Some((first, rest)) if *first == c => {
+                self.rest = rest;
+                true
             }
-            None => false,
+            _ => false,
         }
     }
 
@@ -95,13 +85,9 @@ impl<'t> Reader<'t> {
     pub(crate) fn next(&mut self) -> Option<char>
         ensures { IfSome result (λ c. self.old.rest.now ≡ c ∷ self.new.rest.now) }
     {
-        match self.rest.split_first() {
-            Some((first, rest)) => {
-                self.rest = rest;
-                Some(*first)
-            }
-            None => None,
-        }
+        let (first, rest) = self.rest.split_first()?;
+        self.rest = rest;
+        Some(*first)
     }
 
     /// Reads one digit more of a number, if one is next and the number is then no greater than a code point.
@@ -109,19 +95,13 @@ impl<'t> Reader<'t> {
         ensures { MatchOption result (self.new.rest.now ≡ self.old.rest.now)
             (λ n. (c : ℕ) × (self.old.rest.now ≡ c ∷ self.new.rest.now) × (digit_value c < base) × (n ≡ number * base + digit_value c)) }
     {
-        let Some((first, rest)) = self.rest.split_first() else {
-            return None;
-        };
+        let (first, rest) = self.rest.split_first()?;
         let digit = digit_of(*first);
         if digit >= base {
             return None;
         }
-        let Some(product) = number.checked_mul(base) else {
-            return None;
-        };
-        let Some(next) = product.checked_add(digit) else {
-            return None;
-        };
+        let product = number.checked_mul(base)?;
+        let next = product.checked_add(digit)?;
         if next > MOST_CODE {
             return None;
         }
@@ -133,9 +113,7 @@ impl<'t> Reader<'t> {
     pub(crate) fn number(&mut self, base: u32) -> Option<u32>
         ensures { IfSome result (λ n. (count : ℕ) × (0 < count) × HasDigits base count 0 self.old.rest.now n self.new.rest.now) }
     {
-        let Some(first) = self.digit(base, 0) else {
-            return None;
-        };
+        let first = self.digit(base, 0)?;
         let mut number = first;
         while let Some(next) = self.digit(base, number) {
             number = next;
@@ -149,9 +127,7 @@ impl<'t> Reader<'t> {
     {
         let mut number = 0;
         for _ in 0..count {
-            let Some(next) = self.digit(16, number) else {
-                return None;
-            };
+            let next = self.digit(16, number)?;
             number = next;
         }
         Some(number)
@@ -162,14 +138,10 @@ impl<'t> Reader<'t> {
         ensures { IfSome result (λ n. HasEscape (byte "u" ∷ self.old.rest.now) n self.new.rest.now) }
     {
         if !self.takes('{') {
-            let Some(code) = self.hexadecimal(4) else {
-                return None;
-            };
+            let code = self.hexadecimal(4)?;
             return if is_character(code) { Some(code) } else { None };
         }
-        let Some(code) = self.number(16) else {
-            return None;
-        };
+        let code = self.number(16)?;
         if self.takes('}') && is_character(code) {
             Some(code)
         } else {
@@ -181,9 +153,7 @@ impl<'t> Reader<'t> {
     pub(crate) fn escape(&mut self) -> Option<u32>
         ensures { IfSome result (λ n. HasEscape self.old.rest.now n self.new.rest.now) }
     {
-        let Some(c) = self.next() else {
-            return None;
-        };
+        let c = self.next()?;
         match c {
             't' => Some(9),
             'n' => Some(10),

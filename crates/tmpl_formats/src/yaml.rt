@@ -5,7 +5,7 @@ ghost use Rattle.tmpl_formats.specs.computed.Yaml as computed;
 ghost use Rattle.tmpl_formats.specs.computed.YamlView.{config_of};
 
 use crate::mistake::Mistake;
-use crate::yaml_line::{Control, Move, Place, Spot, Write, move_of};
+use crate::yaml_line::{Control, Move, Place, Spot, Write, is_margin, move_of};
 use crate::yaml_nest::{Nest, happen, is_in_brackets};
 use std::alloc::{AllocError, Global};
 
@@ -65,10 +65,7 @@ fn write(scalar: &mut Vec<u8>, write: Write) -> Result<(), AllocError>
 {
     match write {
         Write::Keep => Ok(()),
-        Write::Start(byte) => {
-            scalar.clear();
-            Ok(scalar.push(byte)?)
-        }
+        Write::Start(byte) => begin(scalar, b"", byte),
         Write::Add(byte) => Ok(scalar.push(byte)?),
         Write::Dash(byte) => begin(scalar, b"-", byte),
         Write::Dashes(byte) => begin(scalar, b"--", byte),
@@ -119,7 +116,7 @@ fn begins_line(control: Control) -> bool
     ensures { result ≡ computed.begins_line control }
 {
     match control {
-        Control::At(spot) => matches!(spot.place, Place::Line) && spot.column == 0,
+        Control::At(spot) => is_margin(spot),
         Control::Block(_, column) => column == 0,
         Control::Indent(_, _, column) => column == 0,
         _ => false,

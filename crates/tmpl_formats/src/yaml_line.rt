@@ -11,7 +11,7 @@ use crate::yaml_scalar::{
 };
 
 /// What may stand at a place of a line.
-#[derive(Clone, Copy, Debug, PartialEq, Eq)]
+#[derive(Clone, Copy)]
 pub enum Place {
     /// The start of a line, after its spaces.
     Line,
@@ -26,14 +26,14 @@ pub enum Place {
 }
 
 /// A place at a column.
-#[derive(Clone, Copy, Debug, PartialEq, Eq)]
+#[derive(Clone, Copy)]
 pub struct Spot {
     pub place: Place,
     pub column: u64,
 }
 
 /// What was read last. A spot is that of the scalar, or of its key.
-#[derive(Clone, Copy, Debug, PartialEq, Eq)]
+#[derive(Clone, Copy)]
 pub enum Control {
     At(Spot),
     /// A dash, which may begin an item or a scalar.
@@ -73,7 +73,7 @@ pub enum Control {
 }
 
 /// The kinds of bytes that a line distinguishes.
-#[derive(Clone, Copy, Debug, PartialEq, Eq)]
+#[derive(Clone, Copy)]
 pub enum Sign {
     Newline,
     Space,
@@ -95,7 +95,7 @@ pub enum Sign {
 }
 
 /// What becomes of the bytes of a plain scalar.
-#[derive(Clone, Copy, Debug, PartialEq, Eq)]
+#[derive(Clone, Copy)]
 pub enum Write {
     Keep,
     Start(u8),
@@ -107,7 +107,7 @@ pub enum Write {
 }
 
 /// What a byte does.
-#[derive(Clone, Copy, Debug, PartialEq, Eq)]
+#[derive(Clone, Copy)]
 pub struct Move {
     pub control: Control,
     pub write: Write,
@@ -149,53 +149,16 @@ fn spot_at(place: Place, column: u64) -> Spot
 fn to(control: Control, event: Event) -> Option<Move>
     ensures { result ≡ computed.to control event }
 {
-    Some(Move {
-        control,
-        write: Write::Keep,
-        event,
-    })
+    move_to(control, Write::Keep, event)
 }
 
-/// To a control, after a byte of a plain scalar.
-fn add(control: Control, byte: u8, event: Event) -> Option<Move>
-    ensures { result ≡ computed.add control byte event }
+/// To a control, with bytes of a plain scalar.
+fn move_to(control: Control, write: Write, event: Event) -> Option<Move>
+    ensures { result ≡ computed.move_to control write event }
 {
     Some(Move {
         control,
-        write: Write::Add(byte),
-        event,
-    })
-}
-
-/// To a control, after the first byte of a plain scalar.
-fn start(control: Control, byte: u8, event: Event) -> Option<Move>
-    ensures { result ≡ computed.start control byte event }
-{
-    Some(Move {
-        control,
-        write: Write::Start(byte),
-        event,
-    })
-}
-
-/// To a control, after a dash that begins a plain scalar and the byte after it.
-fn dashed(control: Control, byte: u8, event: Event) -> Option<Move>
-    ensures { result ≡ computed.dashed control byte event }
-{
-    Some(Move {
-        control,
-        write: Write::Dash(byte),
-        event,
-    })
-}
-
-/// To a control, after two dashes that begin a plain scalar and the byte after them.
-fn twice_dashed(control: Control, byte: u8, event: Event) -> Option<Move>
-    ensures { result ≡ computed.twice_dashed control byte event }
-{
-    Some(Move {
-        control,
-        write: Write::Dashes(byte),
+        write,
         event,
     })
 }
@@ -241,25 +204,11 @@ fn after_key(spot: Spot) -> Place
     }
 }
 
-/// The next column, if a count can hold it.
-fn next_column(column: u64) -> Option<u64>
-    ensures { result ≡ computed.next_column column }
-{
-    if column < u64::MAX {
-        Some(column + 1)
-    } else {
-        None
-    }
-}
-
 /// After a space: the next column.
 fn next_spot(place: Place, column: u64, event: Event) -> Option<Move>
     ensures { result ≡ computed.next_spot place column event }
 {
-    match next_column(column) {
-        Some(next) => to(Control::At(spot_at(place, next)), event),
-        None => None,
-    }
+    to(Control::At(spot_at(place, column.checked_add(1)?)), event)
 }
 
 /// After the end of a line, which does not come in brackets.
@@ -288,15 +237,12 @@ fn at_gap(place: Place, column: u64, sign: Sign, event: Event) -> Option<Move>
 fn at_next_gap(place: Place, column: u64, sign: Sign, event: Event) -> Option<Move>
     ensures { result ≡ computed.at_next_gap place column sign event }
 {
-    match next_column(column) {
-        Some(next) => at_gap(place, next, sign, event),
-        None => None,
-    }
+    at_gap(place, column.checked_add(1)?, sign, event)
 }
 
 /// A key or a value begins at a spot.
 fn begin(spot: Spot) -> Event
-    ensures { result ≡ computed.begin spot }
+    ensures { result ≡ computed.begin spot.place spot.column }
 {
     match spot.place {
         Place::Flow => Event::Enter,
@@ -306,15 +252,11 @@ fn begin(spot: Spot) -> Event
 
 /// A dash comes at a spot, which may begin an item, a key or a value, and at the start of a line another document.
 fn lead(spot: Spot) -> Event
-    ensures { result ≡ computed.lead spot }
+    ensures { result ≡ computed.lead spot.place spot.column }
 {
     match spot.place {
         Place::Flow => Event::Enter,
-        Place::Line => if spot.column == 0 {
-            Event::Nothing
-        } else {
-            Event::Dash(spot.column)
-        },
+        _ if is_margin(spot) => Event::Nothing,
         _ => Event::Dash(spot.column),
     }
 }
@@ -323,13 +265,11 @@ fn lead(spot: Spot) -> Event
 fn at_mark(spot: Spot) -> Option<Move>
     ensures { result ≡ computed.at_mark spot }
 {
-    match parent_of(spot.place) {
-        Some(parent) => to(
-            Control::Header(parent),
-            Event::One(Token::Scalar(spot.column)),
-        ),
-        None => None,
-    }
+    let parent = parent_of(spot.place)?;
+    to(
+        Control::Header(parent),
+        Event::One(Token::Scalar(spot.column)),
+    )
 }
 
 /// Where a key or a value begins.
@@ -338,7 +278,7 @@ fn at_node(spot: Spot, sign: Sign, byte: u8) -> Option<Move>
 {
     match sign {
         Sign::Dash => to(Control::Dash(spot), lead(spot)),
-        Sign::Start | Sign::Lead => start(Control::Plain(spot), byte, begin(spot)),
+        Sign::Start | Sign::Lead => move_to(Control::Plain(spot), Write::Start(byte), begin(spot)),
         Sign::Double => to(Control::Double(spot), begin(spot)),
         Sign::Single => to(Control::Single(spot), begin(spot)),
         Sign::Mark => at_mark(spot),
@@ -347,17 +287,6 @@ fn at_node(spot: Spot, sign: Sign, byte: u8) -> Option<Move>
             Event::One(Token::Open(bracket, spot.column)),
         ),
         _ => None,
-    }
-}
-
-/// Where a key or a value may begin.
-fn at_value(spot: Spot, sign: Sign, byte: u8) -> Option<Move>
-    ensures { result ≡ computed.at_value spot sign byte }
-{
-    if takes_values(spot.place) {
-        at_node(spot, sign, byte)
-    } else {
-        None
     }
 }
 
@@ -383,7 +312,8 @@ fn on_line(spot: Spot, sign: Sign, byte: u8) -> Option<Move>
     match sign {
         Sign::Space | Sign::Newline => at_gap(spot.place, spot.column, sign, Event::Nothing),
         Sign::Hash => to(Control::Comment, Event::Nothing),
-        _ => at_value(spot, sign, byte),
+        _ if takes_values(spot.place) => at_node(spot, sign, byte),
+        _ => None,
     }
 }
 
@@ -399,7 +329,7 @@ fn at_place(spot: Spot, sign: Sign, byte: u8) -> Option<Move>
 
 /// After the scalar of a value.
 fn after_scalar(spot: Spot, sign: Sign) -> Option<Move>
-    ensures { result ≡ computed.after_scalar spot sign }
+    ensures { result ≡ computed.after_scalar spot.place spot.column sign }
 {
     match spot.place {
         Place::Flow => after_flow_scalar(Token::Scalar(spot.column), sign),
@@ -466,24 +396,10 @@ fn item_if(spot: Spot, sign: Sign) -> Option<Move>
 }
 
 /// Whether a place is the start of a line without spaces.
-fn is_margin(spot: Spot) -> bool
-    ensures { result ≡ computed.is_margin spot }
+pub(crate) fn is_margin(spot: Spot) -> bool
+    ensures { result ≡ computed.is_margin spot.place spot.column }
 {
-    match spot.place {
-        Place::Line => spot.column == 0,
-        _ => false,
-    }
-}
-
-/// A second dash.
-fn at_second_dash(spot: Spot, byte: u8) -> Option<Move>
-    ensures { result ≡ computed.at_second_dash spot byte }
-{
-    if is_margin(spot) {
-        to(Control::Dashes, Event::Nothing)
-    } else {
-        dashed(Control::Plain(spot), byte, begin(spot))
-    }
+    matches!(spot.place, Place::Line) && spot.column == 0
 }
 
 /// After a dash.
@@ -492,8 +408,8 @@ fn after_dash(spot: Spot, sign: Sign, byte: u8) -> Option<Move>
 {
     match sign {
         Sign::Space | Sign::Newline => item_if(spot, sign),
-        Sign::Dash => at_second_dash(spot, byte),
-        Sign::Start => dashed(Control::Plain(spot), byte, begin(spot)),
+        Sign::Dash if is_margin(spot) => to(Control::Dashes, Event::Nothing),
+        Sign::Dash | Sign::Start => move_to(Control::Plain(spot), Write::Dash(byte), begin(spot)),
         _ => None,
     }
 }
@@ -504,9 +420,9 @@ fn after_dashes(sign: Sign, byte: u8) -> Option<Move>
 {
     match sign {
         Sign::Dash => to(Control::Closed, Event::One(Token::Marker)),
-        Sign::Start => twice_dashed(
+        Sign::Start => move_to(
             Control::Plain(spot_at(Place::Line, 0)),
-            byte,
+            Write::Dashes(byte),
             Event::Begin(0),
         ),
         _ => None,
@@ -539,7 +455,7 @@ fn more_plain(spot: Spot, byte: u8) -> Option<Move>
     ensures { result ≡ computed.more_plain spot byte }
 {
     if may_follow(is_flow(spot.place), 0, byte) {
-        add(Control::Plain(spot), byte, Event::Nothing)
+        move_to(Control::Plain(spot), Write::Add(byte), Event::Nothing)
     } else {
         None
     }
@@ -552,17 +468,6 @@ fn ends_entry(sign: Sign) -> bool
     matches!(sign, Sign::Comma | Sign::Close(_))
 }
 
-/// In a plain scalar, whose start a byte does not spoil.
-fn in_plain(spot: Spot, scalar: &[u8], sign: Sign, byte: u8) -> Option<Move>
-    ensures { result ≡ computed.in_plain spot scalar.now sign byte }
-{
-    if starts_well(scalar, byte) {
-        after_plain(spot, scalar, sign, byte)
-    } else {
-        None
-    }
-}
-
 /// After bytes of a plain scalar.
 fn after_plain(spot: Spot, scalar: &[u8], sign: Sign, byte: u8) -> Option<Move>
     ensures { result ≡ computed.after_plain spot scalar.now sign byte }
@@ -570,21 +475,20 @@ fn after_plain(spot: Spot, scalar: &[u8], sign: Sign, byte: u8) -> Option<Move>
     let in_flow = is_flow(spot.place);
     match sign {
         Sign::Newline => value_if(is_scalar(in_flow, scalar, scalar.len()), spot, sign),
-        Sign::Colon => add(
+        Sign::Colon => move_to(
             Control::PlainColon(spot, scalar.len()),
-            byte,
+            Write::Add(byte),
             Event::Nothing,
         ),
-        Sign::Space => add(
+        Sign::Space => move_to(
             Control::PlainSpace(spot, scalar.len()),
-            byte,
+            Write::Add(byte),
             Event::Nothing,
         ),
-        _ => if in_flow && ends_entry(sign) {
+        _ if in_flow && ends_entry(sign) => {
             value_if(is_scalar(in_flow, scalar, scalar.len()), spot, sign)
-        } else {
-            more_plain(spot, byte)
-        },
+        }
+        _ => more_plain(spot, byte),
     }
 }
 
@@ -598,9 +502,9 @@ fn after_colon(spot: Spot, scalar: &[u8], end: usize, sign: Sign, byte: u8) -> O
             spot,
             sign,
         ),
-        Sign::Colon => add(
+        Sign::Colon => move_to(
             Control::PlainColon(spot, scalar.len()),
-            byte,
+            Write::Add(byte),
             Event::Nothing,
         ),
         _ => more_plain(spot, byte),
@@ -624,15 +528,18 @@ fn after_space(spot: Spot, scalar: &[u8], end: usize, sign: Sign, byte: u8) -> O
 {
     let in_flow = is_flow(spot.place);
     match sign {
-        Sign::Space => add(Control::PlainSpace(spot, end), byte, Event::Nothing),
+        Sign::Space => move_to(
+            Control::PlainSpace(spot, end),
+            Write::Add(byte),
+            Event::Nothing,
+        ),
         Sign::Newline => value_if(is_spaced_scalar(in_flow, scalar, end), spot, sign),
         Sign::Hash => comment_if(is_spaced_scalar(in_flow, scalar, end), spot),
         Sign::Colon => None,
-        _ => if in_flow && ends_entry(sign) {
+        _ if in_flow && ends_entry(sign) => {
             value_if(is_spaced_scalar(in_flow, scalar, end), spot, sign)
-        } else {
-            more_plain(spot, byte)
-        },
+        }
+        _ => more_plain(spot, byte),
     }
 }
 
@@ -737,11 +644,8 @@ fn at_quoted_colon(spot: Spot) -> Option<Move>
             spot.column,
             Event::One(Token::Key(spot.column)),
         ),
-        _ => if takes_keys(spot.place) {
-            to(Control::QuotedColon(spot), Event::Nothing)
-        } else {
-            None
-        },
+        place if takes_keys(place) => to(Control::QuotedColon(spot), Event::Nothing),
+        _ => None,
     }
 }
 
@@ -787,69 +691,22 @@ fn at_header(parent: u64, sign: Sign, byte: u8) -> Option<Move>
     }
 }
 
-/// One space more before the first text of a block scalar.
-fn more_block(parent: u64, column: u64) -> Option<Move>
-    ensures { result ≡ computed.more_block parent column }
-{
-    match next_column(column) {
-        Some(next) => to(Control::Block(parent, next), Event::Nothing),
-        None => None,
-    }
-}
-
-/// A blank line of a block scalar before its first text, which has not many spaces.
-fn blank_block(parent: u64, column: u64) -> Option<Move>
-    ensures { result ≡ computed.blank_block parent column }
-{
-    if column == 0 || column - 1 <= parent {
-        to(Control::Block(parent, 0), Event::Nothing)
-    } else {
-        None
-    }
-}
-
-/// The first text of a block scalar, or what follows an empty one.
-fn first_text(parent: u64, column: u64, sign: Sign, byte: u8) -> Option<Move>
-    ensures { result ≡ computed.first_text parent column sign byte }
-{
-    if column <= parent {
-        at_place(spot_at(Place::Line, column), sign, byte)
-    } else if byte == b'\t' {
-        None
-    } else {
-        to(Control::Text(parent, column), Event::Nothing)
-    }
-}
-
-/// Before the first text of a block scalar.
+/// Before the first text of a block scalar. A blank line there is no longer than the least indentation of the text.
 fn in_block(parent: u64, column: u64, sign: Sign, byte: u8) -> Option<Move>
     ensures { result ≡ computed.in_block parent column sign byte }
 {
     match sign {
-        Sign::Newline => blank_block(parent, column),
-        Sign::Space => more_block(parent, column),
-        _ => first_text(parent, column, sign, byte),
-    }
-}
-
-/// What follows a block scalar, at a column.
-fn after_block(parent: u64, column: u64, sign: Sign, byte: u8) -> Option<Move>
-    ensures { result ≡ computed.after_block parent column sign byte }
-{
-    if column <= parent {
-        at_place(spot_at(Place::Line, column), sign, byte)
-    } else {
-        None
-    }
-}
-
-/// One space more of a line of a block scalar.
-fn more_indent(parent: u64, own: u64, column: u64) -> Option<Move>
-    ensures { result ≡ computed.more_indent parent own column }
-{
-    match next_column(column) {
-        Some(next) => to(Control::Indent(parent, own, next), Event::Nothing),
-        None => None,
+        Sign::Newline if column == 0 || column - 1 <= parent => {
+            to(Control::Block(parent, 0), Event::Nothing)
+        }
+        Sign::Newline => None,
+        Sign::Space => to(
+            Control::Block(parent, column.checked_add(1)?),
+            Event::Nothing,
+        ),
+        _ if column <= parent => at_place(spot_at(Place::Line, column), sign, byte),
+        _ if byte == b'\t' => None,
+        _ => to(Control::Text(parent, column), Event::Nothing),
     }
 }
 
@@ -859,21 +716,13 @@ fn in_indent(parent: u64, own: u64, column: u64, sign: Sign, byte: u8) -> Option
 {
     match sign {
         Sign::Newline => to(Control::Indent(parent, own, 0), Event::Nothing),
-        _ => if column == own {
-            to(Control::Text(parent, own), Event::Nothing)
-        } else {
-            before_indent(parent, own, column, sign, byte)
-        },
-    }
-}
-
-/// A space before the text of a line of a block scalar, or what follows the block scalar.
-fn before_indent(parent: u64, own: u64, column: u64, sign: Sign, byte: u8) -> Option<Move>
-    ensures { result ≡ computed.before_indent parent own column sign byte }
-{
-    match sign {
-        Sign::Space => more_indent(parent, own, column),
-        _ => after_block(parent, column, sign, byte),
+        _ if column == own => to(Control::Text(parent, own), Event::Nothing),
+        Sign::Space => to(
+            Control::Indent(parent, own, column.checked_add(1)?),
+            Event::Nothing,
+        ),
+        _ if column <= parent => at_place(spot_at(Place::Line, column), sign, byte),
+        _ => None,
     }
 }
 
@@ -898,7 +747,8 @@ pub(crate) fn move_of(control: Control, scalar: &[u8], in_brackets: bool, byte: 
         Control::Dashes => after_dashes(sign, byte),
         Control::Closed => after_closed(in_brackets, sign, byte),
         Control::Comment => in_comment(sign),
-        Control::Plain(spot) => in_plain(spot, scalar, sign, byte),
+        Control::Plain(_) if !starts_well(scalar, byte) => None,
+        Control::Plain(spot) => after_plain(spot, scalar, sign, byte),
         Control::PlainColon(spot, end) => after_colon(spot, scalar, end, sign, byte),
         Control::PlainSpace(spot, end) => after_space(spot, scalar, end, sign, byte),
         Control::Double(spot) => in_double(spot, byte),

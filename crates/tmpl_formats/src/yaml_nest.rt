@@ -6,14 +6,14 @@ ghost use Rattle.tmpl_formats.specs.computed.YamlNestView.{nest_of};
 use std::alloc::{AllocError, Global};
 
 /// Brackets of a kind.
-#[derive(Clone, Copy, Debug, PartialEq, Eq)]
+#[derive(Clone, Copy)]
 pub enum Bracket {
     List,
     Map,
 }
 
 /// What lines say, with columns.
-#[derive(Clone, Copy, Debug, PartialEq, Eq)]
+#[derive(Clone, Copy)]
 pub enum Token {
     /// The dash of an item.
     Item(u64),
@@ -27,14 +27,14 @@ pub enum Token {
 }
 
 /// A map or a sequence that is open, with the column of its entries.
-#[derive(Clone, Copy, Debug, PartialEq, Eq)]
+#[derive(Clone, Copy)]
 pub enum Level {
     Map(u64),
     Sequence(u64),
 }
 
 /// What may come next.
-#[derive(Clone, Copy, Debug, PartialEq, Eq)]
+#[derive(Clone, Copy)]
 pub enum Expects {
     /// A value, or nothing in its place.
     Value,
@@ -45,7 +45,7 @@ pub enum Expects {
 }
 
 /// What a token does.
-#[derive(Clone, Copy, Debug, PartialEq, Eq)]
+#[derive(Drop)]
 pub enum Change {
     Expect(Expects),
     Push(Level),
@@ -55,7 +55,7 @@ pub enum Change {
 }
 
 /// What a byte says of tokens.
-#[derive(Clone, Copy, Debug, PartialEq, Eq)]
+#[derive(Clone, Copy)]
 pub enum Event {
     Nothing,
     /// A key or a value begins at a column.
@@ -76,28 +76,6 @@ pub(crate) struct Nest {
     pub(crate) expects: Expects,
     pub(crate) levels: Vec<Level>,
     pub(crate) brackets: Vec<Bracket>,
-}
-
-/// A level opens where a test passes.
-fn push_if(passes: bool, level: Level) -> Option<Change>
-    ensures { result ≡ computed.push_if passes level }
-{
-    if passes {
-        Some(Change::Push(level))
-    } else {
-        None
-    }
-}
-
-/// What comes next where a test passes.
-fn expect_if(passes: bool, expects: Expects) -> Option<Change>
-    ensures { result ≡ computed.expect_if passes expects }
-{
-    if passes {
-        Some(Change::Expect(expects))
-    } else {
-        None
-    }
 }
 
 /// Whether a value is wanted.
@@ -127,18 +105,7 @@ fn holds(column: u64, expects: Expects, top: Option<Level>) -> bool
 {
     match top {
         None => is_value(expects),
-        Some(Level::Map(own)) => is_value(expects) && own < column,
-        Some(Level::Sequence(own)) => is_value(expects) && own < column,
-    }
-}
-
-/// Whether a value may come in brackets.
-fn holds_in(expects: Expects, bracket: Bracket) -> bool
-    ensures { result ≡ computed.holds_in expects bracket }
-{
-    match bracket {
-        Bracket::List => is_entry(expects),
-        Bracket::Map => is_value(expects),
+        Some(Level::Map(own) | Level::Sequence(own)) => is_value(expects) && own < column,
     }
 }
 
@@ -148,7 +115,8 @@ fn holds_at(column: u64, expects: Expects, top: Option<Level>, bracket: Option<B
 {
     match bracket {
         None => holds(column, expects, top),
-        Some(bracket) => holds_in(expects, bracket),
+        Some(Bracket::List) => is_entry(expects),
+        Some(Bracket::Map) => is_value(expects),
     }
 }
 
@@ -156,33 +124,12 @@ fn holds_at(column: u64, expects: Expects, top: Option<Level>, bracket: Option<B
 fn item(column: u64, expects: Expects, top: Option<Level>) -> Option<Change>
     ensures { result ≡ computed.item column expects top }
 {
-    match top {
-        None => push_if(is_value(expects), Level::Sequence(column)),
-        Some(Level::Map(own)) => push_if(
-            is_value(expects) && own <= column,
-            Level::Sequence(column),
-        ),
-        Some(Level::Sequence(own)) => if own == column {
-            Some(Change::Expect(Expects::Value))
-        } else {
-            push_if(is_value(expects) && own < column, Level::Sequence(column))
-        },
-    }
-}
-
-/// An item, which stands in no brackets.
-fn item_at(
-    column: u64,
-    expects: Expects,
-    top: Option<Level>,
-    bracket: Option<Bracket>,
-) -> Option<Change>
-    ensures { result ≡ computed.item_at column expects top bracket }
-{
-    match bracket {
-        None => item(column, expects, top),
-        Some(_) => None,
-    }
+    let opens = match top {
+        Some(Level::Sequence(own)) if own == column => return Some(Change::Expect(Expects::Value)),
+        Some(Level::Map(own)) => is_value(expects) && own <= column,
+        _ => holds(column, expects, top),
+    };
+    opens.then_some(Change::Push(Level::Sequence(column)))
 }
 
 /// A key of a map.
@@ -190,84 +137,8 @@ fn key(column: u64, expects: Expects, top: Option<Level>) -> Option<Change>
     ensures { result ≡ computed.key column expects top }
 {
     match top {
-        None => push_if(is_value(expects), Level::Map(column)),
-        Some(Level::Map(own)) => if own == column {
-            Some(Change::Expect(Expects::Value))
-        } else {
-            push_if(is_value(expects) && own < column, Level::Map(column))
-        },
-        Some(Level::Sequence(own)) => push_if(
-            is_value(expects) && own < column,
-            Level::Map(column),
-        ),
-    }
-}
-
-/// A key of a map, perhaps in brackets.
-fn key_at(
-    column: u64,
-    expects: Expects,
-    top: Option<Level>,
-    bracket: Option<Bracket>,
-) -> Option<Change>
-    ensures { result ≡ computed.key_at column expects top bracket }
-{
-    match bracket {
-        None => key(column, expects, top),
-        Some(Bracket::List) => None,
-        Some(Bracket::Map) => expect_if(is_entry(expects), Expects::Value),
-    }
-}
-
-/// Brackets open where a value may come.
-fn open_if(passes: bool, bracket: Bracket) -> Option<Change>
-    ensures { result ≡ computed.open_if passes bracket }
-{
-    if passes {
-        Some(Change::Open(bracket))
-    } else {
-        None
-    }
-}
-
-/// The end of brackets, after an entry or a comma.
-fn close(own: Bracket, expects: Expects, bracket: Option<Bracket>) -> Option<Change>
-    ensures { result ≡ computed.close own expects bracket }
-{
-    match (own, bracket) {
-        (Bracket::List, Some(Bracket::List)) => close_if(expects),
-        (Bracket::Map, Some(Bracket::Map)) => close_if(expects),
-        _ => None,
-    }
-}
-
-/// The end of brackets, unless a value is wanted.
-fn close_if(expects: Expects) -> Option<Change>
-    ensures { result ≡ computed.close_if expects }
-{
-    match expects {
-        Expects::Value => None,
-        _ => Some(Change::Close),
-    }
-}
-
-/// A comma, after an entry in brackets.
-fn comma(expects: Expects, bracket: Option<Bracket>) -> Option<Change>
-    ensures { result ≡ computed.comma expects bracket }
-{
-    match bracket {
-        None => None,
-        Some(_) => expect_if(is_nothing(expects), Expects::Entry),
-    }
-}
-
-/// Another document, which begins in no brackets.
-fn marker(bracket: Option<Bracket>) -> Option<Change>
-    ensures { result ≡ computed.marker bracket }
-{
-    match bracket {
-        None => Some(Change::Reset),
-        Some(_) => None,
+        Some(Level::Map(own)) if own == column => Some(Change::Expect(Expects::Value)),
+        _ => holds(column, expects, top).then_some(Change::Push(Level::Map(column))),
     }
 }
 
@@ -280,32 +151,33 @@ fn change_of(
 ) -> Option<Change>
     ensures { result ≡ computed.change_of token expects top bracket }
 {
-    match token {
-        Token::Item(column) => item_at(column, expects, top, bracket),
-        Token::Key(column) => key_at(column, expects, top, bracket),
-        Token::Scalar(column) => expect_if(
-            holds_at(column, expects, top, bracket),
-            Expects::Nothing,
-        ),
-        Token::Open(own, column) => open_if(holds_at(column, expects, top, bracket), own),
-        Token::Close(own) => close(own, expects, bracket),
-        Token::Comma => comma(expects, bracket),
-        Token::Marker => marker(bracket),
+    match (token, bracket) {
+        (Token::Item(column), None) => item(column, expects, top),
+        (Token::Key(column), None) => key(column, expects, top),
+        (Token::Key(_), Some(Bracket::Map)) => {
+            is_entry(expects).then_some(Change::Expect(Expects::Value))
+        }
+        (Token::Scalar(column), _) => {
+            holds_at(column, expects, top, bracket).then_some(Change::Expect(Expects::Nothing))
+        }
+        (Token::Open(own, column), _) => {
+            holds_at(column, expects, top, bracket).then_some(Change::Open(own))
+        }
+        (Token::Close(Bracket::List), Some(Bracket::List))
+        | (Token::Close(Bracket::Map), Some(Bracket::Map)) => {
+            (!is_value(expects)).then_some(Change::Close)
+        }
+        (Token::Comma, Some(_)) => is_nothing(expects).then_some(Change::Expect(Expects::Entry)),
+        (Token::Marker, None) => Some(Change::Reset),
+        _ => None,
     }
 }
 
-/// The innermost map or sequence.
-fn innermost(levels: &Vec<Level>) -> Option<Level>
-    ensures { result ≡ computed.head_of (reverse levels.now.items) }
+/// The innermost of the levels or of the brackets.
+fn innermost<T: Copy>(stack: &Vec<T>) -> Option<T>
+    ensures { result ≡ computed.head_of (reverse stack.now.items) }
 {
-    levels.last().copied()
-}
-
-/// The innermost brackets.
-fn innermost_bracket(brackets: &Vec<Bracket>) -> Option<Bracket>
-    ensures { result ≡ computed.head_of (reverse brackets.now.items) }
-{
-    brackets.last().copied()
+    stack.last().copied()
 }
 
 /// Does what a token does.
@@ -334,23 +206,14 @@ fn apply(nest: &mut Nest, change: Change) -> Result<(), AllocError>
     Ok(())
 }
 
-/// Whether a level ends before an entry at a column: a sequence at the column of a key ends there too.
-fn is_over(level: Level, column: u64, is_item: bool) -> bool
-    ensures { result ≡ computed.is_over level column is_item }
-{
-    match level {
-        Level::Map(own) => column < own,
-        Level::Sequence(own) => if is_item { column < own } else { column <= own },
-    }
-}
-
-/// Whether the innermost level ends before an entry at a column.
+/// Whether the innermost level ends before an entry at a column: a sequence at the column of a key ends there too.
 fn is_top_over(top: Option<Level>, column: u64, is_item: bool) -> bool
     ensures { result ≡ computed.is_top_over top column is_item }
 {
     match top {
         None => false,
-        Some(level) => is_over(level, column, is_item),
+        Some(Level::Sequence(own)) if !is_item => column <= own,
+        Some(Level::Map(own) | Level::Sequence(own)) => column < own,
     }
 }
 
@@ -384,61 +247,33 @@ fn settle(nest: &mut Nest, column: u64, is_item: bool)
 fn take(nest: &mut Nest, token: Token) -> Result<bool, AllocError>
     ensures { IfOk result (λ went. computed.taken token (nest_of nest.old) ≡ (if went then Some (nest_of nest.new) else None)) }
 {
-    match change_of(
-        token,
-        nest.expects,
-        innermost(&nest.levels),
-        innermost_bracket(&nest.brackets),
-    ) {
-        Some(change) => {
-            apply(nest, change)?;
-            Ok(true)
-        }
-        None => Ok(false),
-    }
+    let top = innermost(&nest.levels);
+    let Some(change) = change_of(token, nest.expects, top, innermost(&nest.brackets)) else {
+        return Ok(false);
+    };
+    apply(nest, change)?;
+    Ok(true)
 }
 
-/// Whether a key or a value may begin at a column.
-fn may_begin(column: u64, expects: Expects, top: Option<Level>) -> bool
-    ensures { result ≡ computed.may_begin column expects top }
+/// Whether a key, a value or, if asked for, an item may begin at a column.
+fn may_begin(column: u64, is_item: bool, expects: Expects, top: Option<Level>) -> bool
+    ensures { result ≡ computed.may_begin column is_item expects top }
 {
     match top {
         Some(Level::Map(own)) => own == column || holds(column, expects, top),
-        _ => holds(column, expects, top),
+        Some(Level::Sequence(own)) => is_item && own == column || holds(column, expects, top),
+        None => holds(column, expects, top),
     }
 }
 
-/// Ends what ends before a key or a value at a column; whether one may begin there.
-fn begin(nest: &mut Nest, column: u64) -> bool
-    ensures { computed.begun column (nest_of nest.old) ≡ (if result then Some (nest_of nest.new) else None) }
+/// Ends what ends before an entry at a column; whether one may begin there.
+fn begin(nest: &mut Nest, column: u64, is_item: bool) -> bool
+    ensures { computed.begun column is_item (nest_of nest.old) ≡ (if result then Some (nest_of nest.new) else None) }
 {
-    match innermost_bracket(&nest.brackets) {
+    match innermost(&nest.brackets) {
         None => {
-            settle(nest, column, false);
-            may_begin(column, nest.expects, innermost(&nest.levels))
-        }
-        Some(_) => false,
-    }
-}
-
-/// Whether an item, a key or a value may begin at a column.
-fn may_dash(column: u64, expects: Expects, top: Option<Level>) -> bool
-    ensures { result ≡ computed.may_dash column expects top }
-{
-    match top {
-        Some(Level::Sequence(own)) => own == column || holds(column, expects, top),
-        _ => may_begin(column, expects, top),
-    }
-}
-
-/// Ends what ends before an item, a key or a value at a column; whether one may begin there.
-fn dash(nest: &mut Nest, column: u64) -> bool
-    ensures { computed.dashed column (nest_of nest.old) ≡ (if result then Some (nest_of nest.new) else None) }
-{
-    match innermost_bracket(&nest.brackets) {
-        None => {
-            settle(nest, column, true);
-            may_dash(column, nest.expects, innermost(&nest.levels))
+            settle(nest, column, is_item);
+            may_begin(column, is_item, nest.expects, innermost(&nest.levels))
         }
         Some(_) => false,
     }
@@ -448,7 +283,7 @@ fn dash(nest: &mut Nest, column: u64) -> bool
 fn take_item(nest: &mut Nest, column: u64) -> Result<bool, AllocError>
     ensures { IfOk result (λ went. computed.taken_item column (nest_of nest.old) ≡ (if went then Some (nest_of nest.new) else None)) }
 {
-    match innermost_bracket(&nest.brackets) {
+    match innermost(&nest.brackets) {
         None => {
             settle(nest, column, true);
             take(nest, Token::Item(column))
@@ -474,8 +309,8 @@ pub(crate) fn happen(nest: &mut Nest, event: Event) -> Result<bool, AllocError>
 {
     match event {
         Event::Nothing => Ok(true),
-        Event::Begin(column) => Ok(begin(nest, column)),
-        Event::Dash(column) => Ok(dash(nest, column)),
+        Event::Begin(column) => Ok(begin(nest, column, false)),
+        Event::Dash(column) => Ok(begin(nest, column, true)),
         Event::Enter => Ok(!is_nothing(nest.expects)),
         Event::Item(column) => take_item(nest, column),
         Event::One(token) => take(nest, token),
@@ -487,7 +322,7 @@ pub(crate) fn happen(nest: &mut Nest, event: Event) -> Result<bool, AllocError>
 pub(crate) fn is_in_brackets(nest: &Nest) -> bool
     ensures { result ≡ computed.is_in_brackets (nest_of nest.now) }
 {
-    innermost_bracket(&nest.brackets).is_some()
+    innermost(&nest.brackets).is_some()
 }
 
 impl Nest {

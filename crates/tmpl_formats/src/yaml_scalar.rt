@@ -15,7 +15,7 @@ pub(crate) fn is_start(byte: u8) -> bool
         || byte >= 128
 }
 
-/// A byte of this text, if it is so long.
+/// The byte of this text at an index, if there is one.
 fn byte_at(text: &[u8], index: usize) -> Option<u8>
     ensures { result ≡ slice_get text.now index }
 {
@@ -26,20 +26,14 @@ fn byte_at(text: &[u8], index: usize) -> Option<u8>
 fn is_byte(byte: Option<u8>, wanted: u8) -> bool
     ensures { result ≡ spec.passes (λ b. b == wanted) byte }
 {
-    match byte {
-        Some(byte) => byte == wanted,
-        None => false,
-    }
+    matches!(byte, Some(byte) if byte == wanted)
 }
 
 /// Whether a byte is there and may begin a plain scalar.
 fn starts(byte: Option<u8>) -> bool
     ensures { result ≡ spec.passes spec.is_start byte }
 {
-    match byte {
-        Some(byte) => is_start(byte),
-        None => false,
-    }
+    matches!(byte, Some(byte) if is_start(byte))
 }
 
 /// Whether a byte may follow a dot at the start: no digit, and no letter of `.inf` and `.nan`.
@@ -53,10 +47,7 @@ fn may_follow_dot(byte: u8) -> bool
 fn follows_dot(byte: Option<u8>) -> bool
     ensures { result ≡ spec.passes spec.may_follow_dot byte }
 {
-    match byte {
-        Some(byte) => may_follow_dot(byte),
-        None => false,
-    }
+    matches!(byte, Some(byte) if may_follow_dot(byte))
 }
 
 /// Whether a plain scalar may begin with these bytes.
@@ -122,7 +113,7 @@ fn is_joined(in_flow: bool, text: &[u8]) -> bool
 }
 
 /// Whether the bytes are the same.
-fn is_same(text: &[u8], word: &[u8]) -> bool
+pub(crate) fn is_same(text: &[u8], word: &[u8]) -> bool
     ensures { result ≡ bytes_eq text.now word.now }
 {
     text == word
@@ -198,20 +189,14 @@ fn is_numeric_text(text: &[u8]) -> bool
 fn is_digit(byte: Option<u8>) -> bool
     ensures { result ≡ spec.passes is_ascii_digit byte }
 {
-    match byte {
-        Some(byte) => byte.is_ascii_digit(),
-        None => false,
-    }
+    matches!(byte, Some(byte) if byte.is_ascii_digit())
 }
 
 /// Whether a byte is there and is a sign.
 fn is_signed(byte: Option<u8>) -> bool
     ensures { result ≡ spec.passes spec.is_sign byte }
 {
-    match byte {
-        Some(byte) => is_sign(byte),
-        None => false,
-    }
+    matches!(byte, Some(byte) if is_sign(byte))
 }
 
 /// A byte of what some readers take for a number without digits.

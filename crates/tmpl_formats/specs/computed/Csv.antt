@@ -1,4 +1,5 @@
 -- The machine for CSV.
+use Rattle.std.specs.Bool.{then_some}
 use Rattle.std.specs.Prelude.{ℕ, ◌+◌, Bool, true, false, ◌==◌, nat_lt, List, Option, Some, None, option_map, if◌then◌else◌}
 use Rattle.std.specs.Str.{byte}
 use Rattle.tmpl_formats.specs.computed.Machine.{mistake}
@@ -19,17 +20,13 @@ sign_of b =
 
 -- after a comma, if the record has one more field
 abbrev pub next_field : ℕ → ℕ → Option Place
-next_field columns fields = if nat_lt (fields + 1) columns then Some (at.Field (fields + 1)) else None
-
--- after the last field of a record, at the next place
-abbrev pub if_last : ℕ → ℕ → Place → Option Place
-if_last columns fields next = if fields + 1 == columns then Some next else None
+next_field columns fields = then_some (nat_lt (fields + 1) columns) (at.Field (fields + 1))
 
 -- where a field may end
 abbrev pub after_field : ℕ → ℕ → Sign → Option Place
 after_field columns fields sign.Comma = next_field columns fields
-after_field columns fields sign.Newline = if_last columns fields at.Start
-after_field columns fields sign.Return = if_last columns fields at.Return
+after_field columns fields sign.Newline = then_some (fields + 1 == columns) at.Start
+after_field columns fields sign.Return = then_some (fields + 1 == columns) at.Return
 after_field columns fields _ = None
 
 abbrev pub after_bare : ℕ → ℕ → Sign → Option Place
@@ -40,31 +37,19 @@ abbrev pub at_field : ℕ → ℕ → Sign → Option Place
 at_field columns fields sign.Quote = Some (at.Quoted fields)
 at_field columns fields s = after_bare columns fields s
 
-abbrev pub after_start : ℕ → Sign → Option Place
-after_start columns sign.Newline = None
-after_start columns sign.Return = None
-after_start columns s = at_field columns 0 s
-
-abbrev pub after_quoted : ℕ → Sign → Option Place
-after_quoted fields sign.Null = None
-after_quoted fields sign.Quote = Some (at.Quote fields)
-after_quoted fields _ = Some (at.Quoted fields)
-
-abbrev pub after_quote : ℕ → ℕ → Sign → Option Place
-after_quote columns fields sign.Quote = Some (at.Quoted fields)
-after_quote columns fields s = after_field columns fields s
-
-abbrev pub after_return : Sign → Option Place
-after_return sign.Newline = Some at.Start
-after_return _ = None
-
 abbrev pub after_sign : ℕ → Place → Sign → Option Place
-after_sign columns at.Start s = after_start columns s
+after_sign columns at.Start sign.Newline = None
+after_sign columns at.Start sign.Return = None
+after_sign columns at.Start s = at_field columns 0 s
 after_sign columns (at.Field fields) s = at_field columns fields s
 after_sign columns (at.Bare fields) s = after_bare columns fields s
-after_sign columns (at.Quoted fields) s = after_quoted fields s
-after_sign columns (at.Quote fields) s = after_quote columns fields s
-after_sign columns at.Return s = after_return s
+after_sign columns (at.Quoted fields) sign.Null = None
+after_sign columns (at.Quoted fields) sign.Quote = Some (at.Quote fields)
+after_sign columns (at.Quoted fields) _ = Some (at.Quoted fields)
+after_sign columns (at.Quote fields) sign.Quote = Some (at.Quoted fields)
+after_sign columns (at.Quote fields) s = after_field columns fields s
+after_sign columns at.Return sign.Newline = Some at.Start
+after_sign columns at.Return _ = None
 
 abbrev pub csv_at : ℕ → Place → Csv
 csv_at columns place = record { columns = columns; place = place }

@@ -24,24 +24,7 @@ sign_of b =
     else (if b == byte "_" || is_ascii_alphabetic b then sign.Letter
     else (if is_ascii_digit b then sign.Digit else sign.Other))))))))))
 
-abbrev pub after_start : Sign → Option Control
-after_start sign.Newline = Some at.Start
-after_start sign.Hash = Some at.Comment
-after_start sign.Letter = Some at.Name
-after_start _ = None
-
-abbrev pub after_comment : Sign → Option Control
-after_comment sign.Newline = Some at.Start
-after_comment sign.Null = None
-after_comment sign.Backslash = None
-after_comment _ = Some at.Comment
-
-abbrev pub after_name : Sign → Option Control
-after_name sign.Equals = Some at.Equals
-after_name sign.Letter = Some at.Name
-after_name sign.Digit = Some at.Name
-after_name _ = None
-
+-- in a value without quotes
 abbrev pub after_bare : Sign → Option Control
 after_bare sign.Newline = Some at.Start
 after_bare sign.Equals = Some at.Bare
@@ -50,58 +33,45 @@ after_bare sign.Letter = Some at.Bare
 after_bare sign.Digit = Some at.Bare
 after_bare _ = None
 
-abbrev pub after_equals : Sign → Option Control
-after_equals sign.Single = Some at.Single
-after_equals sign.Double = Some at.Double
-after_equals s = after_bare s
-
-abbrev pub after_single : Sign → Option Control
-after_single sign.Null = None
-after_single sign.Single = Some at.Closed
-after_single _ = Some at.Single
-
-abbrev pub after_double : Sign → Option Control
-after_double sign.Null = None
-after_double sign.Expanding = None
-after_double sign.Double = Some at.Closed
-after_double sign.Backslash = Some at.Escape
-after_double _ = Some at.Double
-
-abbrev pub after_escape : Sign → Option Control
-after_escape sign.Double = Some at.Double
-after_escape sign.Backslash = Some at.Double
-after_escape sign.Expanding = Some at.Double
-after_escape _ = None
-
-abbrev pub after_closed : Sign → Option Control
-after_closed sign.Newline = Some at.Start
-after_closed _ = None
-
 abbrev pub after_sign : Control → Sign → Option Control
-after_sign at.Start s = after_start s
-after_sign at.Comment s = after_comment s
-after_sign at.Name s = after_name s
-after_sign at.Equals s = after_equals s
+after_sign at.Start sign.Newline = Some at.Start
+after_sign at.Start sign.Hash = Some at.Comment
+after_sign at.Start sign.Letter = Some at.Name
+after_sign at.Comment sign.Newline = Some at.Start
+after_sign at.Comment sign.Null = None
+after_sign at.Comment sign.Backslash = None
+after_sign at.Comment _ = Some at.Comment
+after_sign at.Name sign.Equals = Some at.Equals
+after_sign at.Name sign.Letter = Some at.Name
+after_sign at.Name sign.Digit = Some at.Name
+after_sign at.Equals sign.Single = Some at.Single
+after_sign at.Equals sign.Double = Some at.Double
+after_sign at.Equals s = after_bare s
 after_sign at.Bare s = after_bare s
-after_sign at.Single s = after_single s
-after_sign at.Double s = after_double s
-after_sign at.Escape s = after_escape s
-after_sign at.Closed s = after_closed s
+after_sign at.Single sign.Null = None
+after_sign at.Single sign.Single = Some at.Closed
+after_sign at.Single _ = Some at.Single
+after_sign at.Double sign.Null = None
+after_sign at.Double sign.Expanding = None
+after_sign at.Double sign.Double = Some at.Closed
+after_sign at.Double sign.Backslash = Some at.Escape
+after_sign at.Double _ = Some at.Double
+after_sign at.Escape sign.Double = Some at.Double
+after_sign at.Escape sign.Backslash = Some at.Double
+after_sign at.Escape sign.Expanding = Some at.Double
+after_sign at.Closed sign.Newline = Some at.Start
+after_sign _ _ = None
 
 -- one step of the machine, and whether a text may end there
 abbrev pub step : Control → ℕ → Option Control
 step c b = after_sign c (sign_of b)
 
 abbrev pub ends : Control → Bool
-ends at.Start = true
-ends at.Comment = true
 ends at.Name = false
-ends at.Equals = true
-ends at.Bare = true
 ends at.Single = false
 ends at.Double = false
 ends at.Escape = false
-ends at.Closed = true
+ends _ = true
 
 abbrev pub start : Control
 start = at.Start

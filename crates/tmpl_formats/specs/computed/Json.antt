@@ -1,4 +1,5 @@
 -- The machine for JSON: a control, and what is open.
+use Rattle.std.specs.Bool.{then_some}
 use Rattle.std.specs.Prelude.{ℕ, Bool, true, false, ◌||◌, ◌&&◌, ◌==◌, nat_lt, nat_le, List, [], ◌∷◌, ◌++◌, Option, Some, None, option_map, if◌then◌else◌}
 use Rattle.std.specs.Char.{is_ascii_digit}
 use Rattle.std.specs.Option.{option_to_list}
@@ -92,30 +93,15 @@ at_colon sign.Space = to at.Colon
 at_colon sign.Colon = to at.Value
 at_colon _ = None
 
--- after a comma, by what is open
-abbrev pub after_comma : Option Open → Option Action
-after_comma None = None
-after_comma (Some open_.Array) = to at.Value
-after_comma (Some open_.Object) = to at.Key
-
-abbrev pub close_array : Option Open → Option Action
-close_array None = None
-close_array (Some open_.Array) = Some (action.Pop at.End)
-close_array (Some open_.Object) = None
-
-abbrev pub close_object : Option Open → Option Action
-close_object None = None
-close_object (Some open_.Array) = None
-close_object (Some open_.Object) = Some (action.Pop at.End)
-
 -- after a value
 abbrev pub at_end : Option Open → Sign → Option Action
 at_end top sign.White = to at.End
 at_end top sign.Space = to at.End
-at_end top sign.Comma = after_comma top
-at_end top sign.CloseArray = close_array top
-at_end top sign.CloseObject = close_object top
-at_end top _ = None
+at_end (Some open_.Array) sign.Comma = to at.Value
+at_end (Some open_.Object) sign.Comma = to at.Key
+at_end (Some open_.Array) sign.CloseArray = Some (action.Pop at.End)
+at_end (Some open_.Object) sign.CloseObject = Some (action.Pop at.End)
+at_end _ _ = None
 
 -- after the closing quote of a text
 abbrev pub closed : Role → Control
@@ -131,28 +117,14 @@ at_text r _ = to (at.Text r)
 
 -- the next control where a test passes
 abbrev pub next : Bool → Control → Option Action
-next true q = to q
-next false q = None
-
--- the first digit of a code unit: one that begins with `d` may be a surrogate
-abbrev pub after_unit : Role → ℕ → Option Action
-after_unit r value = if value == 13 then to (at.Escape r escape.Surrogate) else next (nat_lt value 16) (at.Escape r escape.Hex3)
-
-abbrev pub after_surrogate : Role → ℕ → Option Action
-after_surrogate r value = if nat_lt value 8 then to (at.Escape r escape.Hex2) else next (nat_lt value 12) (at.Escape r escape.High2)
-
-abbrev pub after_backslash : Role → ℕ → Option Action
-after_backslash r b = if b == byte "u" then to (at.Escape r escape.Unit) else next (is_short_escape b) (at.Text r)
-
--- the second digit of a low surrogate
-abbrev pub is_low : ℕ → Bool
-is_low value = nat_le 12 value && nat_lt value 16
+next t q = then_some t (action.To q)
 
 -- in an escape
 abbrev pub at_escape : Role → Escape → ℕ → Option Action
-at_escape r escape.Backslash b = after_backslash r b
-at_escape r escape.Unit b = after_unit r (hex_value b)
-at_escape r escape.Surrogate b = after_surrogate r (hex_value b)
+at_escape r escape.Backslash b = if b == byte "u" then to (at.Escape r escape.Unit) else next (is_short_escape b) (at.Text r)
+at_escape r escape.Unit b = if hex_value b == 13 then to (at.Escape r escape.Surrogate) else next (nat_lt (hex_value b) 16) (at.Escape r escape.Hex3)
+at_escape r escape.Surrogate b =
+    if nat_lt (hex_value b) 8 then to (at.Escape r escape.Hex2) else next (nat_lt (hex_value b) 12) (at.Escape r escape.High2)
 at_escape r escape.Hex3 b = next (nat_lt (hex_value b) 16) (at.Escape r escape.Hex2)
 at_escape r escape.Hex2 b = next (nat_lt (hex_value b) 16) (at.Escape r escape.Hex1)
 at_escape r escape.Hex1 b = next (nat_lt (hex_value b) 16) (at.Text r)
@@ -161,7 +133,7 @@ at_escape r escape.High1 b = next (nat_lt (hex_value b) 16) (at.Escape r escape.
 at_escape r escape.Pair b = next (b == byte "\\") (at.Escape r escape.PairUnit)
 at_escape r escape.PairUnit b = next (b == byte "u") (at.Escape r escape.Low)
 at_escape r escape.Low b = next (hex_value b == 13) (at.Escape r escape.LowSecond)
-at_escape r escape.LowSecond b = next (is_low (hex_value b)) (at.Escape r escape.Hex2)
+at_escape r escape.LowSecond b = next (nat_le 12 (hex_value b) && nat_lt (hex_value b) 16) (at.Escape r escape.Hex2)
 
 -- in a literal
 abbrev pub at_literal : Literal → ℕ → Option Action
@@ -175,57 +147,37 @@ at_literal literal.Ull b = next (b == byte "u") (at.Literal literal.Ll)
 at_literal literal.Ll b = next (b == byte "l") (at.Literal literal.L)
 at_literal literal.L b = next (b == byte "l") at.End
 
--- after a sign, and after digits of each part of a number
-abbrev pub after_minus : Sign → Option Action
-after_minus sign.Zero = to (at.Number number.Zero)
-after_minus sign.Digit = to (at.Number number.Whole)
-after_minus _ = None
-
-abbrev pub after_power : Option Open → Sign → Option Action
-after_power top sign.Zero = to (at.Number number.Power)
-after_power top sign.Digit = to (at.Number number.Power)
-after_power top s = at_end top s
-
-abbrev pub after_fraction : Option Open → Sign → Option Action
-after_fraction top sign.Zero = to (at.Number number.Fraction)
-after_fraction top sign.Digit = to (at.Number number.Fraction)
-after_fraction top sign.Exponent = to (at.Number number.Exponent)
-after_fraction top s = at_end top s
-
 abbrev pub after_zero : Option Open → Sign → Option Action
 after_zero top sign.Dot = to (at.Number number.Point)
 after_zero top sign.Exponent = to (at.Number number.Exponent)
 after_zero top s = at_end top s
 
-abbrev pub after_whole : Option Open → Sign → Option Action
-after_whole top sign.Zero = to (at.Number number.Whole)
-after_whole top sign.Digit = to (at.Number number.Whole)
-after_whole top s = after_zero top s
-
-abbrev pub after_point : Sign → Option Action
-after_point sign.Zero = to (at.Number number.Fraction)
-after_point sign.Digit = to (at.Number number.Fraction)
-after_point _ = None
-
-abbrev pub after_sign : Sign → Option Action
-after_sign sign.Zero = to (at.Number number.Power)
-after_sign sign.Digit = to (at.Number number.Power)
-after_sign _ = None
-
-abbrev pub after_exponent : Sign → Option Action
-after_exponent sign.Plus = to (at.Number number.Sign)
-after_exponent sign.Minus = to (at.Number number.Sign)
-after_exponent s = after_sign s
+-- where the first digit of a fraction or of an exponent has to come
+abbrev pub first_digit : Number → Sign → Option Action
+first_digit n sign.Zero = to (at.Number n)
+first_digit n sign.Digit = to (at.Number n)
+first_digit n _ = None
 
 abbrev pub at_number : Number → Option Open → Sign → Option Action
-at_number number.Minus top s = after_minus s
+at_number number.Minus top sign.Zero = to (at.Number number.Zero)
+at_number number.Minus top sign.Digit = to (at.Number number.Whole)
+at_number number.Minus top _ = None
 at_number number.Zero top s = after_zero top s
-at_number number.Whole top s = after_whole top s
-at_number number.Point top s = after_point s
-at_number number.Fraction top s = after_fraction top s
-at_number number.Exponent top s = after_exponent s
-at_number number.Sign top s = after_sign s
-at_number number.Power top s = after_power top s
+at_number number.Whole top sign.Zero = to (at.Number number.Whole)
+at_number number.Whole top sign.Digit = to (at.Number number.Whole)
+at_number number.Whole top s = after_zero top s
+at_number number.Point top s = first_digit number.Fraction s
+at_number number.Fraction top sign.Zero = to (at.Number number.Fraction)
+at_number number.Fraction top sign.Digit = to (at.Number number.Fraction)
+at_number number.Fraction top sign.Exponent = to (at.Number number.Exponent)
+at_number number.Fraction top s = at_end top s
+at_number number.Exponent top sign.Plus = to (at.Number number.Sign)
+at_number number.Exponent top sign.Minus = to (at.Number number.Sign)
+at_number number.Exponent top s = first_digit number.Power s
+at_number number.Sign top s = first_digit number.Power s
+at_number number.Power top sign.Zero = to (at.Number number.Power)
+at_number number.Power top sign.Digit = to (at.Number number.Power)
+at_number number.Power top s = at_end top s
 
 abbrev pub after : Control → Option Open → ℕ → Option Action
 after at.Value top b = at_value (sign_of b)

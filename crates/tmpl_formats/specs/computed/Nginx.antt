@@ -35,9 +35,6 @@ to control depth = Some (config_at control depth)
 abbrev pub opened : ℕ → Option Nginx
 opened depth = if nat_lt (depth + 1) (2 ^ 64) then to at.Start (depth + 1) else None
 
-abbrev pub closed : ℕ → Option Nginx
-closed depth = if depth == 0 then None else to at.Start (depth - 1)
-
 -- where a word begins
 abbrev pub at_word : ℕ → Sign → Option Nginx
 at_word depth sign.Double = to at.Double depth
@@ -48,13 +45,6 @@ at_word depth sign.Parenthesis = to at.Word depth
 at_word depth sign.Other = to at.Word depth
 at_word depth _ = None
 
-abbrev pub at_start : ℕ → Sign → Option Nginx
-at_start depth sign.Newline = to at.Start depth
-at_start depth sign.Gap = to at.Start depth
-at_start depth sign.Close = closed depth
-at_start depth sign.Hash = to at.StartComment depth
-at_start depth s = at_word depth s
-
 -- where a word may end
 abbrev pub at_tail : ℕ → Sign → Option Nginx
 at_tail depth sign.Newline = to at.Gap depth
@@ -62,14 +52,6 @@ at_tail depth sign.Gap = to at.Gap depth
 at_tail depth sign.Semicolon = to at.Start depth
 at_tail depth sign.Open = opened depth
 at_tail depth _ = None
-
-abbrev pub at_gap : ℕ → Sign → Option Nginx
-at_gap depth sign.Newline = to at.Gap depth
-at_gap depth sign.Gap = to at.Gap depth
-at_gap depth sign.Semicolon = to at.Start depth
-at_gap depth sign.Open = opened depth
-at_gap depth sign.Hash = to at.GapComment depth
-at_gap depth s = at_word depth s
 
 abbrev pub in_word : ℕ → Sign → Option Nginx
 in_word depth sign.Null = None
@@ -81,50 +63,41 @@ in_word depth sign.Backslash = to at.Escape depth
 in_word depth sign.Dollar = to at.Dollar depth
 in_word depth _ = to at.Word depth
 
-abbrev pub after_dollar : ℕ → Sign → Option Nginx
-after_dollar depth sign.Open = to at.Dollar depth
-after_dollar depth s = in_word depth s
-
--- the byte after a backslash
+-- to a place, unless the byte is NUL
 abbrev pub unless_null : Control → ℕ → Sign → Option Nginx
 unless_null next depth sign.Null = None
 unless_null next depth _ = to next depth
 
-abbrev pub in_double : ℕ → Sign → Option Nginx
-in_double depth sign.Null = None
-in_double depth sign.Double = to at.Closed depth
-in_double depth sign.Backslash = to at.DoubleEscape depth
-in_double depth _ = to at.Double depth
-
-abbrev pub in_single : ℕ → Sign → Option Nginx
-in_single depth sign.Null = None
-in_single depth sign.Single = to at.Closed depth
-in_single depth sign.Backslash = to at.SingleEscape depth
-in_single depth _ = to at.Single depth
-
-abbrev pub after_quote : ℕ → Sign → Option Nginx
-after_quote depth sign.Parenthesis = to at.Word depth
-after_quote depth s = at_tail depth s
-
--- in a comment, after which this comes
-abbrev pub in_comment : Control → Control → ℕ → Sign → Option Nginx
-in_comment stay next depth sign.Null = None
-in_comment stay next depth sign.Newline = to next depth
-in_comment stay next depth _ = to stay depth
-
 abbrev pub after_sign : Control → ℕ → Sign → Option Nginx
-after_sign at.Start depth s = at_start depth s
-after_sign at.Gap depth s = at_gap depth s
+after_sign at.Start depth sign.Newline = to at.Start depth
+after_sign at.Start depth sign.Gap = to at.Start depth
+after_sign at.Start depth sign.Close = if depth == 0 then None else to at.Start (depth - 1)
+after_sign at.Start depth sign.Hash = to at.StartComment depth
+after_sign at.Start depth s = at_word depth s
+after_sign at.Gap depth sign.Newline = to at.Gap depth
+after_sign at.Gap depth sign.Gap = to at.Gap depth
+after_sign at.Gap depth sign.Semicolon = to at.Start depth
+after_sign at.Gap depth sign.Open = opened depth
+after_sign at.Gap depth sign.Hash = to at.GapComment depth
+after_sign at.Gap depth s = at_word depth s
 after_sign at.Word depth s = in_word depth s
-after_sign at.Dollar depth s = after_dollar depth s
+after_sign at.Dollar depth sign.Open = to at.Dollar depth
+after_sign at.Dollar depth s = in_word depth s
 after_sign at.Escape depth s = unless_null at.Word depth s
-after_sign at.Double depth s = in_double depth s
+after_sign at.Double depth sign.Double = to at.Closed depth
+after_sign at.Double depth sign.Backslash = to at.DoubleEscape depth
+after_sign at.Double depth s = unless_null at.Double depth s
 after_sign at.DoubleEscape depth s = unless_null at.Double depth s
-after_sign at.Single depth s = in_single depth s
+after_sign at.Single depth sign.Single = to at.Closed depth
+after_sign at.Single depth sign.Backslash = to at.SingleEscape depth
+after_sign at.Single depth s = unless_null at.Single depth s
 after_sign at.SingleEscape depth s = unless_null at.Single depth s
-after_sign at.Closed depth s = after_quote depth s
-after_sign at.StartComment depth s = in_comment at.StartComment at.Start depth s
-after_sign at.GapComment depth s = in_comment at.GapComment at.Gap depth s
+after_sign at.Closed depth sign.Parenthesis = to at.Word depth
+after_sign at.Closed depth s = at_tail depth s
+after_sign at.StartComment depth sign.Newline = to at.Start depth
+after_sign at.StartComment depth s = unless_null at.StartComment depth s
+after_sign at.GapComment depth sign.Newline = to at.Gap depth
+after_sign at.GapComment depth s = unless_null at.GapComment depth s
 
 -- one step of the machine, and whether a text may end there
 abbrev pub step : Nginx → ℕ → Option Nginx

@@ -1,14 +1,13 @@
 -- The machine for YAML.
-use Rattle.std.specs.Prelude.{ℕ, Bool, false, not, ◌&&◌, ◌==◌, List, [], ◌∷◌, ◌++◌, Option, Some, None, option_map, if◌then◌else◌}
+use Rattle.std.specs.Prelude.{ℕ, Bool, false, not, ◌&&◌, ◌==◌, List, [], ◌∷◌, ◌++◌, Option, Some, None, option_map, option_and_then, if◌then◌else◌}
 use Rattle.std.specs.Str.{byte}
 use Rattle.tmpl_formats.specs.YamlScalar.{is_unprintable}
 use Rattle.tmpl_formats.specs.computed.Machine.{mistake}
-use Rattle.tmpl_formats.specs.computed.YamlLine.{move_of, spot_at}
+use Rattle.tmpl_formats.specs.computed.YamlLine.{is_margin, move_of, spot_at}
 use Rattle.tmpl_formats.specs.computed.YamlNest as nest
 use Rattle.tmpl_formats.specs.declared.yaml_line.Control.{Control}
 use Rattle.tmpl_formats.specs.declared.yaml_line.Control.TheVariants as at
 use Rattle.tmpl_formats.specs.declared.yaml_line.Move.{Move}
-use Rattle.tmpl_formats.specs.declared.yaml_line.Place.{Place}
 use Rattle.tmpl_formats.specs.declared.yaml_line.Place.TheVariants as place
 use Rattle.tmpl_formats.specs.declared.yaml_line.Write.{Write}
 use Rattle.tmpl_formats.specs.declared.yaml_line.Write.TheVariants as write
@@ -34,12 +33,8 @@ with_nest a b q text n = record { before = a; last = b; control = q; scalar = te
 abbrev pub went : Move → Config → Option Config
 went m c = option_map (λ n. with_nest c.before c.last m.control (written m.write c.scalar) n) (nest.happened m.event c.nest)
 
-abbrev pub went_if : Option Move → Config → Option Config
-went_if None c = None
-went_if (Some m) c = went m c
-
 abbrev pub moved : Config → ℕ → Option Config
-moved c b = went_if (move_of c.control c.scalar (nest.is_in_brackets c.nest) b) c
+moved c b = option_and_then (λ m. went m c) (move_of c.control c.scalar (nest.is_in_brackets c.nest) b)
 
 abbrev pub kept : ℕ → Config → Config
 kept b c = with_nest c.last b c.control c.scalar c.nest
@@ -47,10 +42,6 @@ kept b c = with_nest c.last b c.control c.scalar c.nest
 -- one step of the machine
 abbrev pub step : Config → ℕ → Option Config
 step c b = if is_unprintable c.before c.last b then None else moved (kept b c) b
-
-abbrev pub is_margin : Place → ℕ → Bool
-is_margin place.Line c = c == 0
-is_margin _ c = false
 
 abbrev pub begins_line : Control → Bool
 begins_line (at.At x) = is_margin x.place x.column

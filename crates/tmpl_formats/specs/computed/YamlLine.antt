@@ -1,5 +1,5 @@
 -- The machine for lines of YAML: what each byte does.
-use Rattle.std.specs.Prelude.{ℕ, ◌+◌, ◌-◌, ◌*◌, ◌^◌, Bool, true, false, not, ◌||◌, ◌&&◌, ◌==◌, nat_lt, nat_le, List, length, Option, Some, None, if◌then◌else◌}
+use Rattle.std.specs.Prelude.{ℕ, ◌+◌, ◌-◌, ◌*◌, ◌^◌, Bool, true, false, not, ◌||◌, ◌&&◌, ◌==◌, nat_lt, nat_le, List, length, Option, Some, None, option_and_then, if◌then◌else◌}
 use Rattle.std.specs.Str.{byte}
 use Rattle.tmpl_formats.specs.Yaml.{is_flow, takes_values, takes_keys, parent_of, after_key}
 use Rattle.tmpl_formats.specs.YamlScalar.{is_start, may_follow, is_sign, is_escape, digits_after, is_character}
@@ -18,7 +18,8 @@ use Rattle.tmpl_formats.specs.declared.yaml_line.Place.TheVariants as place
 use Rattle.tmpl_formats.specs.declared.yaml_line.Sign.{Sign}
 use Rattle.tmpl_formats.specs.declared.yaml_line.Sign.TheVariants as sign
 use Rattle.tmpl_formats.specs.declared.yaml_line.Spot.{Spot}
-use Rattle.tmpl_formats.specs.declared.yaml_line.Write.TheVariants as write
+use Rattle.tmpl_formats.specs.declared.yaml_line.Write.{Write}
+use Rattle.tmpl_formats.specs.declared.yaml_line.Write.TheVariants as writes
 
 -- the kind of a byte
 abbrev pub sign_of : ℕ → Sign
@@ -41,30 +42,17 @@ sign_of b =
 abbrev pub spot_at : Place → ℕ → Spot
 spot_at p c = record { place = p; column = c }
 
+abbrev pub move_to : Control → Write → Event → Option Move
+move_to q w e = Some (record { control = q; write = w; event = e })
+
 abbrev pub to : Control → Event → Option Move
-to q e = Some (record { control = q; write = write.Keep; event = e })
-
-abbrev pub add : Control → ℕ → Event → Option Move
-add q b e = Some (record { control = q; write = write.Add b; event = e })
-
-abbrev pub start : Control → ℕ → Event → Option Move
-start q b e = Some (record { control = q; write = write.Start b; event = e })
-
-abbrev pub dashed : Control → ℕ → Event → Option Move
-dashed q b e = Some (record { control = q; write = write.Dash b; event = e })
-
-abbrev pub twice_dashed : Control → ℕ → Event → Option Move
-twice_dashed q b e = Some (record { control = q; write = write.Dashes b; event = e })
+to q e = move_to q writes.Keep e
 
 abbrev pub next_column : ℕ → Option ℕ
 next_column c = if nat_lt (c + 1) (2 ^ 64) then Some (c + 1) else None
 
-abbrev pub spot_if : Place → Option ℕ → Event → Option Move
-spot_if p None e = None
-spot_if p (Some c) e = to (at.At (spot_at p c)) e
-
 abbrev pub next_spot : Place → ℕ → Event → Option Move
-next_spot p c e = spot_if p (next_column c) e
+next_spot p c e = option_and_then (λ d. to (at.At (spot_at p d)) e) (next_column c)
 
 abbrev pub next_line : Place → Event → Option Move
 next_line p e = if is_flow p then None else to (at.At (spot_at place.Line 0)) e
@@ -75,48 +63,31 @@ at_gap p c sign.Space e = next_spot p c e
 at_gap p c sign.Newline e = next_line p e
 at_gap p c _ e = None
 
-abbrev pub gap_if : Place → Option ℕ → Sign → Event → Option Move
-gap_if p None s e = None
-gap_if p (Some c) s e = at_gap p c s e
-
 abbrev pub at_next_gap : Place → ℕ → Sign → Event → Option Move
-at_next_gap p c s e = gap_if p (next_column c) s e
+at_next_gap p c s e = option_and_then (λ d. at_gap p d s e) (next_column c)
 
-abbrev pub begin_in : Place → ℕ → Event
-begin_in place.Flow c = event.Enter
-begin_in _ c = event.Begin c
+abbrev pub begin : Place → ℕ → Event
+begin place.Flow c = event.Enter
+begin _ c = event.Begin c
 
-abbrev pub begin : Spot → Event
-begin x = begin_in x.place x.column
-
-abbrev pub lead_in : Place → ℕ → Event
-lead_in place.Flow c = event.Enter
-lead_in place.Line c = if c == 0 then event.Nothing else event.Dash c
-lead_in _ c = event.Dash c
-
-abbrev pub lead : Spot → Event
-lead x = lead_in x.place x.column
-
-abbrev pub mark_if : Option ℕ → ℕ → Option Move
-mark_if None c = None
-mark_if (Some parent) c = to (at.Header parent) (event.One (token.Scalar c))
+abbrev pub lead : Place → ℕ → Event
+lead place.Flow c = event.Enter
+lead place.Line c = if c == 0 then event.Nothing else event.Dash c
+lead _ c = event.Dash c
 
 abbrev pub at_mark : Spot → Option Move
-at_mark x = mark_if (parent_of x.place) x.column
+at_mark x = option_and_then (λ parent. to (at.Header parent) (event.One (token.Scalar x.column))) (parent_of x.place)
 
 -- where a key or a value begins
 abbrev pub at_node : Spot → Sign → ℕ → Option Move
-at_node x sign.Dash b = to (at.Dash x) (lead x)
-at_node x sign.Start b = start (at.Plain x) b (begin x)
-at_node x sign.Lead b = start (at.Plain x) b (begin x)
-at_node x sign.Double b = to (at.Double x) (begin x)
-at_node x sign.Single b = to (at.Single x) (begin x)
+at_node x sign.Dash b = to (at.Dash x) (lead x.place x.column)
+at_node x sign.Start b = move_to (at.Plain x) (writes.Start b) (begin x.place x.column)
+at_node x sign.Lead b = move_to (at.Plain x) (writes.Start b) (begin x.place x.column)
+at_node x sign.Double b = to (at.Double x) (begin x.place x.column)
+at_node x sign.Single b = to (at.Single x) (begin x.place x.column)
 at_node x sign.Mark b = at_mark x
 at_node x (sign.Open k) b = to (at.At (spot_at place.Flow 0)) (event.One (token.Open k x.column))
 at_node x _ b = None
-
-abbrev pub at_value : Spot → Sign → ℕ → Option Move
-at_value x s b = if takes_values x.place then at_node x s b else None
 
 abbrev pub at_flow : ℕ → Sign → ℕ → Option Move
 at_flow c sign.Space b = next_spot place.Flow c event.Nothing
@@ -128,7 +99,7 @@ abbrev pub on_line : Spot → Sign → ℕ → Option Move
 on_line x sign.Space b = at_gap x.place x.column sign.Space event.Nothing
 on_line x sign.Newline b = at_gap x.place x.column sign.Newline event.Nothing
 on_line x sign.Hash b = to at.Comment event.Nothing
-on_line x s b = at_value x s b
+on_line x s b = if takes_values x.place then at_node x s b else None
 
 abbrev pub at_place_in : Place → Spot → Sign → ℕ → Option Move
 at_place_in place.Flow x s b = at_flow x.column s b
@@ -143,15 +114,12 @@ after_flow_scalar t sign.Comma = to (at.At (spot_at place.Flow 0)) (event.Two t 
 after_flow_scalar t (sign.Close k) = to at.Closed (event.Two t (token.Close k))
 after_flow_scalar t _ = None
 
-abbrev pub after_scalar_in : Place → ℕ → Sign → Option Move
-after_scalar_in place.Flow c s = after_flow_scalar (token.Scalar c) s
-after_scalar_in _ c s = at_gap place.End 0 s (event.One (token.Scalar c))
-
-abbrev pub after_scalar : Spot → Sign → Option Move
-after_scalar x s = after_scalar_in x.place x.column s
+abbrev pub after_scalar : Place → ℕ → Sign → Option Move
+after_scalar place.Flow c s = after_flow_scalar (token.Scalar c) s
+after_scalar _ c s = at_gap place.End 0 s (event.One (token.Scalar c))
 
 abbrev pub value_if : Bool → Spot → Sign → Option Move
-value_if t x s = if t && takes_values x.place then after_scalar x s else None
+value_if t x s = if t && takes_values x.place then after_scalar x.place x.column s else None
 
 abbrev pub key_if : Bool → Spot → Sign → Option Move
 key_if t x s = if t && takes_keys x.place then at_next_gap (after_key x.place x.column) x.column s (event.One (token.Key x.column)) else None
@@ -160,26 +128,20 @@ abbrev pub item_if : Spot → Sign → Option Move
 item_if x s =
     if takes_keys x.place && not (is_flow x.place) then at_next_gap (place.Item x.column) x.column s (event.Item x.column) else None
 
-abbrev pub is_margin_in : Place → ℕ → Bool
-is_margin_in place.Line c = c == 0
-is_margin_in _ c = false
-
-abbrev pub is_margin : Spot → Bool
-is_margin x = is_margin_in x.place x.column
-
-abbrev pub at_second_dash : Spot → ℕ → Option Move
-at_second_dash x b = if is_margin x then to at.Dashes event.Nothing else dashed (at.Plain x) b (begin x)
+abbrev pub is_margin : Place → ℕ → Bool
+is_margin place.Line c = c == 0
+is_margin _ c = false
 
 abbrev pub after_dash : Spot → Sign → ℕ → Option Move
 after_dash x sign.Space b = item_if x sign.Space
 after_dash x sign.Newline b = item_if x sign.Newline
-after_dash x sign.Dash b = at_second_dash x b
-after_dash x sign.Start b = dashed (at.Plain x) b (begin x)
+after_dash x sign.Dash b = if is_margin x.place x.column then to at.Dashes event.Nothing else move_to (at.Plain x) (writes.Dash b) (begin x.place x.column)
+after_dash x sign.Start b = move_to (at.Plain x) (writes.Dash b) (begin x.place x.column)
 after_dash x _ b = None
 
 abbrev pub after_dashes : Sign → ℕ → Option Move
 after_dashes sign.Dash b = to at.Closed (event.One token.Marker)
-after_dashes sign.Start b = twice_dashed (at.Plain (spot_at place.Line 0)) b (event.Begin 0)
+after_dashes sign.Start b = move_to (at.Plain (spot_at place.Line 0)) (writes.Dashes b) (event.Begin 0)
 after_dashes _ b = None
 
 abbrev pub after_closed : Bool → Sign → ℕ → Option Move
@@ -191,46 +153,34 @@ in_comment _ = to at.Comment event.Nothing
 
 -- plain scalars
 abbrev pub more_plain : Spot → ℕ → Option Move
-more_plain x b = if may_follow (is_flow x.place) 0 b then add (at.Plain x) b event.Nothing else None
+more_plain x b = if may_follow (is_flow x.place) 0 b then move_to (at.Plain x) (writes.Add b) event.Nothing else None
 
 abbrev pub ends_entry : Sign → Bool
 ends_entry sign.Comma = true
 ends_entry (sign.Close k) = true
 ends_entry _ = false
 
-abbrev pub whole_value : Spot → List ℕ → Sign → Option Move
-whole_value x text s = value_if (is_scalar (is_flow x.place) text (length text)) x s
-
 abbrev pub after_plain : Spot → List ℕ → Sign → ℕ → Option Move
-after_plain x text sign.Newline b = whole_value x text sign.Newline
-after_plain x text sign.Colon b = add (at.PlainColon x (length text)) b event.Nothing
-after_plain x text sign.Space b = add (at.PlainSpace x (length text)) b event.Nothing
-after_plain x text s b = if is_flow x.place && ends_entry s then whole_value x text s else more_plain x b
-
-abbrev pub in_plain : Spot → List ℕ → Sign → ℕ → Option Move
-in_plain x text s b = if starts_well text b then after_plain x text s b else None
-
-abbrev pub named_key : Spot → List ℕ → ℕ → Sign → Option Move
-named_key x text end s = key_if (is_name (is_flow x.place) text end) x s
+after_plain x text sign.Newline b = value_if (is_scalar (is_flow x.place) text (length text)) x sign.Newline
+after_plain x text sign.Colon b = move_to (at.PlainColon x (length text)) (writes.Add b) event.Nothing
+after_plain x text sign.Space b = move_to (at.PlainSpace x (length text)) (writes.Add b) event.Nothing
+after_plain x text s b = if is_flow x.place && ends_entry s then value_if (is_scalar (is_flow x.place) text (length text)) x s else more_plain x b
 
 abbrev pub after_colon : Spot → List ℕ → ℕ → Sign → ℕ → Option Move
-after_colon x text end sign.Space b = named_key x text end sign.Space
-after_colon x text end sign.Newline b = named_key x text end sign.Newline
-after_colon x text end sign.Colon b = add (at.PlainColon x (length text)) b event.Nothing
+after_colon x text end sign.Space b = key_if (is_name (is_flow x.place) text end) x sign.Space
+after_colon x text end sign.Newline b = key_if (is_name (is_flow x.place) text end) x sign.Newline
+after_colon x text end sign.Colon b = move_to (at.PlainColon x (length text)) (writes.Add b) event.Nothing
 after_colon x text end s b = more_plain x b
 
 abbrev pub comment_if : Bool → Spot → Option Move
 comment_if t x = if t && takes_values x.place && not (is_flow x.place) then to at.Comment (event.One (token.Scalar x.column)) else None
 
-abbrev pub spaced_value : Spot → List ℕ → ℕ → Sign → Option Move
-spaced_value x text end s = value_if (is_spaced_scalar (is_flow x.place) text end) x s
-
 abbrev pub after_space : Spot → List ℕ → ℕ → Sign → ℕ → Option Move
-after_space x text end sign.Space b = add (at.PlainSpace x end) b event.Nothing
-after_space x text end sign.Newline b = spaced_value x text end sign.Newline
+after_space x text end sign.Space b = move_to (at.PlainSpace x end) (writes.Add b) event.Nothing
+after_space x text end sign.Newline b = value_if (is_spaced_scalar (is_flow x.place) text end) x sign.Newline
 after_space x text end sign.Hash b = comment_if (is_spaced_scalar (is_flow x.place) text end) x
 after_space x text end sign.Colon b = None
-after_space x text end s b = if is_flow x.place && ends_entry s then spaced_value x text end s else more_plain x b
+after_space x text end s b = if is_flow x.place && ends_entry s then value_if (is_spaced_scalar (is_flow x.place) text end) x s else more_plain x b
 
 -- quoted scalars
 abbrev pub in_double : Spot → ℕ → Option Move
@@ -281,45 +231,19 @@ at_header_end parent _ = None
 abbrev pub at_header : ℕ → Sign → ℕ → Option Move
 at_header parent s b = if is_sign b then to (at.HeaderEnd parent) event.Nothing else at_header_end parent s
 
-abbrev pub block_if : ℕ → Option ℕ → Option Move
-block_if parent None = None
-block_if parent (Some c) = to (at.Block parent c) event.Nothing
-
-abbrev pub more_block : ℕ → ℕ → Option Move
-more_block parent c = block_if parent (next_column c)
-
-abbrev pub blank_block : ℕ → ℕ → Option Move
-blank_block parent c = if (c == 0) || nat_le (c - 1) parent then to (at.Block parent 0) event.Nothing else None
-
-abbrev pub first_text : ℕ → ℕ → Sign → ℕ → Option Move
-first_text parent c s b =
+abbrev pub in_block : ℕ → ℕ → Sign → ℕ → Option Move
+in_block parent c sign.Newline b = if (c == 0) || nat_le (c - 1) parent then to (at.Block parent 0) event.Nothing else None
+in_block parent c sign.Space b = option_and_then (λ d. to (at.Block parent d) event.Nothing) (next_column c)
+in_block parent c s b =
     if nat_le c parent then at_place (spot_at place.Line c) s b else (if b == byte "\t" then None else to (at.Text parent c) event.Nothing)
 
-abbrev pub in_block : ℕ → ℕ → Sign → ℕ → Option Move
-in_block parent c sign.Newline b = blank_block parent c
-in_block parent c sign.Space b = more_block parent c
-in_block parent c s b = first_text parent c s b
-
-abbrev pub after_block : ℕ → ℕ → Sign → ℕ → Option Move
-after_block parent c s b = if nat_le c parent then at_place (spot_at place.Line c) s b else None
-
-abbrev pub indent_if : ℕ → ℕ → Option ℕ → Option Move
-indent_if parent own None = None
-indent_if parent own (Some c) = to (at.Indent parent own c) event.Nothing
-
-abbrev pub more_indent : ℕ → ℕ → ℕ → Option Move
-more_indent parent own c = indent_if parent own (next_column c)
-
 abbrev pub before_indent : ℕ → ℕ → ℕ → Sign → ℕ → Option Move
-before_indent parent own c sign.Space b = more_indent parent own c
-before_indent parent own c s b = after_block parent c s b
-
-abbrev pub text_or : Bool → ℕ → ℕ → ℕ → Sign → ℕ → Option Move
-text_or t parent own c s b = if t then to (at.Text parent own) event.Nothing else before_indent parent own c s b
+before_indent parent own c sign.Space b = option_and_then (λ d. to (at.Indent parent own d) event.Nothing) (next_column c)
+before_indent parent own c s b = if nat_le c parent then at_place (spot_at place.Line c) s b else None
 
 abbrev pub in_indent : ℕ → ℕ → ℕ → Sign → ℕ → Option Move
 in_indent parent own c sign.Newline b = to (at.Indent parent own 0) event.Nothing
-in_indent parent own c s b = text_or (c == own) parent own c s b
+in_indent parent own c s b = if c == own then to (at.Text parent own) event.Nothing else before_indent parent own c s b
 
 abbrev pub in_text : ℕ → ℕ → Sign → Option Move
 in_text parent own sign.Newline = to (at.Indent parent own 0) event.Nothing
@@ -332,7 +256,7 @@ move_of (at.Dash x) text in_brackets b = after_dash x (sign_of b) b
 move_of at.Dashes text in_brackets b = after_dashes (sign_of b) b
 move_of at.Closed text in_brackets b = after_closed in_brackets (sign_of b) b
 move_of at.Comment text in_brackets b = in_comment (sign_of b)
-move_of (at.Plain x) text in_brackets b = in_plain x text (sign_of b) b
+move_of (at.Plain x) text in_brackets b = if starts_well text b then after_plain x text (sign_of b) b else None
 move_of (at.PlainColon x end) text in_brackets b = after_colon x text end (sign_of b) b
 move_of (at.PlainSpace x end) text in_brackets b = after_space x text end (sign_of b) b
 move_of (at.Double x) text in_brackets b = in_double x b

@@ -1,5 +1,6 @@
 -- What is open at a place of a YAML text, innermost first.
-use Rattle.std.specs.Prelude.{ℕ, Bool, true, false, ◌||◌, ◌&&◌, ◌==◌, nat_lt, nat_le, List, [], ◌∷◌, Option, Some, None, is_some, option_map, option_and_then, if◌then◌else◌}
+use Rattle.std.specs.Bool.{then_some}
+use Rattle.std.specs.Prelude.{ℕ, Bool, true, false, not, ◌||◌, ◌&&◌, ◌==◌, nat_lt, nat_le, List, [], ◌∷◌, Option, Some, None, is_some, option_map, option_and_then, if◌then◌else◌}
 use Rattle.tmpl_formats.specs.declared.yaml_nest.Bracket.{Bracket}
 use Rattle.tmpl_formats.specs.declared.yaml_nest.Bracket.TheVariants as bracket
 use Rattle.tmpl_formats.specs.declared.yaml_nest.Change.{Change}
@@ -29,15 +30,6 @@ abbrev pub tail_of : {A : Type 0} → List A → List A
 tail_of [] = []
 tail_of (x ∷ xs) = xs
 
-abbrev pub push_if : Bool → Level → Option Change
-push_if t l = if t then Some (change.Push l) else None
-
-abbrev pub expect_if : Bool → Expects → Option Change
-expect_if t e = if t then Some (change.Expect e) else None
-
-abbrev pub open_if : Bool → Bracket → Option Change
-open_if t k = if t then Some (change.Open k) else None
-
 abbrev pub is_value : Expects → Bool
 is_value expects.Value = true
 is_value _ = false
@@ -65,50 +57,27 @@ holds_at c e top None = holds c e top
 holds_at c e top (Some k) = holds_in e k
 
 abbrev pub item : ℕ → Expects → Option Level → Option Change
-item c e None = push_if (is_value e) (level.Sequence c)
-item c e (Some (level.Map d)) = push_if (is_value e && nat_le d c) (level.Sequence c)
-item c e (Some (level.Sequence d)) = if d == c then Some (change.Expect expects.Value) else push_if (is_value e && nat_lt d c) (level.Sequence c)
-
-abbrev pub item_at : ℕ → Expects → Option Level → Option Bracket → Option Change
-item_at c e top None = item c e top
-item_at c e top (Some k) = None
+item c e None = then_some (is_value e) (change.Push (level.Sequence c))
+item c e (Some (level.Map d)) = then_some (is_value e && nat_le d c) (change.Push (level.Sequence c))
+item c e (Some (level.Sequence d)) = if d == c then Some (change.Expect expects.Value) else then_some (is_value e && nat_lt d c) (change.Push (level.Sequence c))
 
 abbrev pub key : ℕ → Expects → Option Level → Option Change
-key c e None = push_if (is_value e) (level.Map c)
-key c e (Some (level.Map d)) = if d == c then Some (change.Expect expects.Value) else push_if (is_value e && nat_lt d c) (level.Map c)
-key c e (Some (level.Sequence d)) = push_if (is_value e && nat_lt d c) (level.Map c)
-
-abbrev pub key_at : ℕ → Expects → Option Level → Option Bracket → Option Change
-key_at c e top None = key c e top
-key_at c e top (Some bracket.List) = None
-key_at c e top (Some bracket.Map) = expect_if (is_entry e) expects.Value
-
-abbrev pub close_if : Expects → Option Change
-close_if expects.Value = None
-close_if _ = Some change.Close
-
-abbrev pub close : Bracket → Expects → Option Bracket → Option Change
-close bracket.List e (Some bracket.List) = close_if e
-close bracket.Map e (Some bracket.Map) = close_if e
-close _ e _ = None
-
-abbrev pub comma : Expects → Option Bracket → Option Change
-comma e None = None
-comma e (Some k) = expect_if (is_nothing e) expects.Entry
-
-abbrev pub marker : Option Bracket → Option Change
-marker None = Some change.Reset
-marker (Some k) = None
+key c e None = then_some (is_value e) (change.Push (level.Map c))
+key c e (Some (level.Map d)) = if d == c then Some (change.Expect expects.Value) else then_some (is_value e && nat_lt d c) (change.Push (level.Map c))
+key c e (Some (level.Sequence d)) = then_some (is_value e && nat_lt d c) (change.Push (level.Map c))
 
 -- what a token does
 abbrev pub change_of : Token → Expects → Option Level → Option Bracket → Option Change
-change_of (token.Item c) e top k = item_at c e top k
-change_of (token.Key c) e top k = key_at c e top k
-change_of (token.Scalar c) e top k = expect_if (holds_at c e top k) expects.Nothing
-change_of (token.Open own c) e top k = open_if (holds_at c e top k) own
-change_of (token.Close own) e top k = close own e k
-change_of token.Comma e top k = comma e k
-change_of token.Marker e top k = marker k
+change_of (token.Item c) e top None = item c e top
+change_of (token.Key c) e top None = key c e top
+change_of (token.Key c) e top (Some bracket.Map) = then_some (is_entry e) (change.Expect expects.Value)
+change_of (token.Scalar c) e top k = then_some (holds_at c e top k) (change.Expect expects.Nothing)
+change_of (token.Open own c) e top k = then_some (holds_at c e top k) (change.Open own)
+change_of (token.Close bracket.List) e top (Some bracket.List) = then_some (not (is_value e)) change.Close
+change_of (token.Close bracket.Map) e top (Some bracket.Map) = then_some (not (is_value e)) change.Close
+change_of token.Comma e top (Some k) = then_some (is_nothing e) (change.Expect expects.Entry)
+change_of token.Marker e top None = Some change.Reset
+change_of _ e top k = None
 
 abbrev pub applied : Change → Nest → Nest
 applied (change.Expect e) n = nest_at e n.levels n.brackets
@@ -139,33 +108,20 @@ unwound c is_item n = unwound_from c is_item n.awaited n.levels n.brackets
 abbrev pub settled : ℕ → Bool → Nest → Nest
 settled c is_item n = if holds c n.awaited (head_of n.levels) then n else unwound c is_item n
 
-abbrev pub may_begin : ℕ → Expects → Option Level → Bool
-may_begin c e (Some (level.Map d)) = (d == c) || holds c e (Some (level.Map d))
-may_begin c e top = holds c e top
+abbrev pub may_begin : ℕ → Bool → Expects → Option Level → Bool
+may_begin c is_item e (Some (level.Map d)) = (d == c) || holds c e (Some (level.Map d))
+may_begin c is_item e (Some (level.Sequence d)) = (is_item && (d == c)) || holds c e (Some (level.Sequence d))
+may_begin c is_item e None = holds c e None
 
-abbrev pub if_begins : ℕ → Nest → Option Nest
-if_begins c n = if may_begin c n.awaited (head_of n.levels) then Some n else None
+abbrev pub if_begins : ℕ → Bool → Nest → Option Nest
+if_begins c is_item n = if may_begin c is_item n.awaited (head_of n.levels) then Some n else None
 
-abbrev pub begun_in : ℕ → Nest → Option Bracket → Option Nest
-begun_in c n None = if_begins c (settled c false n)
-begun_in c n (Some k) = None
+abbrev pub begun_in : ℕ → Bool → Nest → Option Bracket → Option Nest
+begun_in c is_item n None = if_begins c is_item (settled c is_item n)
+begun_in c is_item n (Some k) = None
 
-abbrev pub begun : ℕ → Nest → Option Nest
-begun c n = begun_in c n (head_of n.brackets)
-
-abbrev pub may_dash : ℕ → Expects → Option Level → Bool
-may_dash c e (Some (level.Sequence d)) = (d == c) || holds c e (Some (level.Sequence d))
-may_dash c e top = may_begin c e top
-
-abbrev pub if_dashes : ℕ → Nest → Option Nest
-if_dashes c n = if may_dash c n.awaited (head_of n.levels) then Some n else None
-
-abbrev pub dashed_in : ℕ → Nest → Option Bracket → Option Nest
-dashed_in c n None = if_dashes c (settled c true n)
-dashed_in c n (Some k) = None
-
-abbrev pub dashed : ℕ → Nest → Option Nest
-dashed c n = dashed_in c n (head_of n.brackets)
+abbrev pub begun : ℕ → Bool → Nest → Option Nest
+begun c is_item n = begun_in c is_item n (head_of n.brackets)
 
 abbrev pub taken_item_in : ℕ → Nest → Option Bracket → Option Nest
 taken_item_in c n None = taken (token.Item c) (settled c true n)
@@ -179,8 +135,8 @@ taken_two t u n = option_and_then (λ m. taken u m) (taken t n)
 
 abbrev pub happened : Event → Nest → Option Nest
 happened event.Nothing n = Some n
-happened (event.Begin c) n = begun c n
-happened (event.Dash c) n = dashed c n
+happened (event.Begin c) n = begun c false n
+happened (event.Dash c) n = begun c true n
 happened event.Enter n = if is_nothing n.awaited then None else Some n
 happened (event.Item c) n = taken_item c n
 happened (event.One t) n = taken t n

@@ -1,6 +1,6 @@
-use Rattle.std.proofs.Common.{◌≡◌, ◌-◌, ◌+◌, ℕ, length, take, drop, Some, None, ap, sym, ◌∙◌, subst, arith, length-drop}
+use Rattle.std.proofs.Common.{◌≡◌, ◌-◌, length, take, drop, Some, None, ap, ◌∙◌, arith, length-drop}
 use Rattle.std.proofs.lemmas.List.{length-take-le}
-use Rattle.tmpl_formats.proofs.LinesLoopLemmas.{IsAtLine, line-goes_on, line-next, line-refused, text-ends, last-line, last-fits, place-fits}
+use Rattle.tmpl_formats.proofs.LinesLoopLemmas.{line-goes_on, line-next, line-refused, text-ends, last-line, last-fits, place-fits}
 use Rattle.tmpl_formats.specs.PatternView.{marks_of}
 use Rattle.tmpl_formats.proofs.lines.lines_mistake.Goals as goal
 use Rattle.tmpl_formats.proofs.lines.lines_mistake.Goals.{then-byte-eq10+in_ok-mistake+in_default, else-byte-eq10}
@@ -18,27 +18,19 @@ moved-requires c =
 
 pub returns-in-Some : goal.returns-in-Some
 returns-in-Some c =
-    ap Some c.moved.ensures
-    ∙ line-refused (marks_of c.args.pattern.now.root) c.args.text.now c.loop-offset.start c.loop-offset.offset c.in-Some.mistake.offset (omega arith) c.loop-offset.invariant c.if-byte-eq10.true
-    (rw c.in-Some.is at c.in_ok-mistake.ensures)
+    ap Some c.moved.ensures ∙ line-refused _ _ _ _ _ (omega arith) c.loop-offset.invariant c.if-byte-eq10.true (rw c.in-Some.is at c.in_ok-mistake.ensures)
 
 pub loop-offset-preserved : goal.loop-offset-preserved
 loop-offset-preserved c =
     elim c.if-byte-eq10.branch [
       | then-byte-eq10+in_ok-mistake+in_default w ↦
-          (let P : ℕ → Type 0 = λ s. IsAtLine (marks_of c.args.pattern.now.root) c.args.text.now s (c.loop-offset.offset + 1) in
-          subst P (sym w.start-is)
-          (line-next (marks_of c.args.pattern.now.root) c.args.text.now c.loop-offset.start c.loop-offset.offset c.loop-offset-test.true c.loop-offset.invariant w.if-byte-eq10.true
-          (rw w.in_default.is at w.in_ok-mistake.ensures)))
+          (rw w.start-is (line-next _ _ _ _ c.loop-offset-test.true c.loop-offset.invariant w.if-byte-eq10.true (rw w.in_default.is at w.in_ok-mistake.ensures)))
       | else-byte-eq10 w ↦
-          (let P : ℕ → Type 0 = λ s. IsAtLine (marks_of c.args.pattern.now.root) c.args.text.now s (c.loop-offset.offset + 1) in
-          subst P (sym w.start-is)
-          (line-goes_on (marks_of c.args.pattern.now.root) c.args.text.now c.loop-offset.start c.loop-offset.offset c.loop-offset-test.true c.loop-offset.invariant w.if-byte-eq10.false))
+          (rw w.start-is (line-goes_on _ _ _ _ c.loop-offset-test.true c.loop-offset.invariant w.if-byte-eq10.false))
     ]
 
 pub returns-then-start-text : goal.returns-then-start-text
-returns-then-start-text c =
-    text-ends (marks_of c.args.pattern.now.root) c.args.text.now c.loop-offset.start c.loop-offset.offset (omega arith) c.loop-offset.invariant c.if-start-text.true
+returns-then-start-text c = text-ends _ _ _ _ (omega arith) c.loop-offset.invariant c.if-start-text.true
 
 pub moved-requires-in-Some-2 : goal.moved-requires-in-Some-2
 moved-requires-in-Some-2 c =
@@ -49,10 +41,7 @@ moved-requires-in-Some-2 c =
 pub returns-in-Some-2 : goal.returns-in-Some-2
 returns-in-Some-2 c =
     ap Some c.moved-in-Some-2.ensures
-    ∙ last-line (marks_of c.args.pattern.now.root) c.args.text.now c.loop-offset.start c.loop-offset.offset (Some c.in-Some-2.mistake.offset) (omega arith) c.loop-offset.invariant
-    c.if-start-text.false (rw c.in-Some-2.is at c.in_ok-mistake-2.ensures)
+    ∙ last-line _ _ _ _ _ (omega arith) c.loop-offset.invariant c.if-start-text.false (rw c.in-Some-2.is at c.in_ok-mistake-2.ensures)
 
 pub returns-in-None : goal.returns-in-None
-returns-in-None c =
-    last-line (marks_of c.args.pattern.now.root) c.args.text.now c.loop-offset.start c.loop-offset.offset None (omega arith) c.loop-offset.invariant
-    c.if-start-text.false (rw c.in-None.is at c.in_ok-mistake-2.ensures)
+returns-in-None c = last-line _ _ _ _ None (omega arith) c.loop-offset.invariant c.if-start-text.false (rw c.in-None.is at c.in_ok-mistake-2.ensures)

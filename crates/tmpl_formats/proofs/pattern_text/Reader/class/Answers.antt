@@ -1,7 +1,3 @@
-use Rattle.std.proofs.Common.{ℕ, List, ◌∷◌, sym, subst}
-use Rattle.tmpl_formats.specs.Pattern as tree
-use Rattle.tmpl_formats.specs.Pattern.{Tree}
-use Rattle.tmpl_formats.specs.PatternText.{HasAtom}
 use Rattle.tmpl_formats.proofs.PatternTextLemmas.{with_some}
 use Rattle.tmpl_formats.proofs.PatternClassLemmas.{class_of}
 use Rattle.tmpl_formats.proofs.pattern_text.Reader.class.Goals as goal
@@ -13,6 +9,4 @@ returns c =
     let items = rw c.in-Some.is at c.in_ok-spans.ensures in
     let atom = class_of c.takes-is_negated.result text c.takes-is_negated.new.self.rest.now c.items.new.self.rest.now c.in-Some.spans.items
     c.takes-is_negated.ensures.taken c.takes-is_negated.ensures.kept c.takes-is_negated.ensures.begins items in
-    let P : List ℕ → Type 0 = λ t. HasAtom (91 ∷ text) (tree.One c.takes-is_negated.result c.in-Some.spans.items) t in
-    let Q : Tree → Type 0 = λ p. HasAtom (91 ∷ text) p now in
-    with_some _ _ (λ node e. subst Q (sym e) (subst P (sym c.one.ensures.rest) atom)) c.one.result c.one.ensures.tree
+    with_some _ _ (λ node e. (rw (← c.one.ensures.rest, ← e) at atom)) c.one.result c.one.ensures.tree

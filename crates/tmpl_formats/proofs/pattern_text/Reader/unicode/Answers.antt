@@ -1,16 +1,11 @@
-use Rattle.std.proofs.Common.{ℕ, List, ◌∷◌, refl, sym, subst}
-use Rattle.tmpl_formats.specs.PatternText.{HasDigits, HasEscape, four_digits, in_braces}
+use Rattle.std.proofs.Common.{refl, sym}
+use Rattle.tmpl_formats.specs.PatternText.{four_digits, in_braces}
 use Rattle.tmpl_formats.proofs.pattern_text.Reader.unicode.Goals as goal
 
 pub returns-then-is_character : goal.returns-then-is_character
-returns-then-is_character c =
-    let P : List ℕ → Type 0 = λ t. HasDigits 16 4 0 t c.in-Some.code c.hexadecimal.new.self.rest.now in
-    four_digits (subst P (c.if-not-takes.ensures.kept refl) c.in-Some.ensures) (sym c.if-is_character.ensures)
+returns-then-is_character c = four_digits (rw (c.if-not-takes.ensures.kept refl) at c.in_ok-code.ensures) (sym c.if-is_character.ensures)
 
 pub returns-then-is_character-2 : goal.returns-then-is_character-2
 returns-then-is_character-2 c =
-    let n = c.in-Some-number.ensures in
-    let P : List ℕ → Type 0 = λ t. HasEscape (117 ∷ t) c.in-Some-number.code c.takes-2.new.self.rest.now in
-    let Q : List ℕ → Type 0 = λ t. HasDigits 16 n.0 0 c.takes.new.self.rest.now c.in-Some-number.code t in
-    subst P (sym (c.if-not-takes.ensures.taken refl))
-    (in_braces n.1 (subst Q (c.if-takes.ensures.taken refl) n.2) (sym c.if-is_character-2.ensures))
+    let n = c.in_ok-code-2.ensures in
+    (rw (← c.if-not-takes.ensures.taken refl) at (in_braces n.1 (rw (c.if-takes.ensures.taken refl) at n.2) (sym c.if-is_character-2.ensures)))
