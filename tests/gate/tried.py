@@ -44,7 +44,7 @@ TRIED = {
         "data_problem_by_another_rule errors_only_where_all_are note_told_as_an_error line_and_column_exchanged key_without_quotes"
         " another_fault_said limit_told_for_a_doubt"
     ),
-    "tmpl_schema": "a_join_that_keeps_one_side",
+    "tmpl_schema": "a_join_that_keeps_one_side a_part_that_may_end_taken_for_the_other one_part_taken_for_both",
     "tmpl_shape": "each_field_required a_number_compared_with_a_text a_string_taken_for_none_of_its_constants",
 }
 
