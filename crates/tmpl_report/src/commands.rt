@@ -1,7 +1,8 @@
 //! The commands of a template that a fault may be of, and what their operands are over the data.
 
+use crate::Result;
 use serde_json::Value;
-use std::alloc::{AllocError, Global};
+use std::alloc::Global;
 use std::str::from_utf8;
 use tmpl_funcs::Func;
 use tmpl_syntax::{Command, Control, ControlNode, Node, NodeKind, Operand, Pipeline, Set, Tree};
@@ -105,7 +106,7 @@ pub(crate) fn commands_at<'w>(
     line: u64,
     wanted: Wanted<'w>,
     start: Option<&'w Value>,
-) -> Result<Vec<Found<'w>>, AllocError> {
+) -> Result<Vec<Found<'w>>> {
     let mut walk = Walk {
         alloc,
         line,
@@ -195,6 +196,16 @@ fn is_true(value: &Value) -> bool {
     }
 }
 
+/// The names of the fields that an operand asks for.
+fn fields_of(operand: &Operand) -> &[Bytes] {
+    match operand {
+        Operand::Fields(fields)
+        | Operand::Variable { fields, .. }
+        | Operand::Group { fields, .. } => fields.as_slice(),
+        _ => &[],
+    }
+}
+
 /// The only operand of a command, if it has one.
 fn only_operand(command: &Command) -> Option<&Operand> {
     match command.operands.as_slice() {
@@ -206,12 +217,7 @@ fn only_operand(command: &Command) -> Option<&Operand> {
 impl<'w> Walk<'w> {
     /// Visits nodes.
     #[cycle(nodes)]
-    fn visit_all(
-        &mut self,
-        nodes: &'w [Node],
-        scope: Scope<'w>,
-        levels: usize,
-    ) -> Result<(), AllocError> {
+    fn visit_all(&mut self, nodes: &'w [Node], scope: Scope<'w>, levels: usize) -> Result<()> {
         if levels == 0 {
             return Ok(());
         }
@@ -223,7 +229,7 @@ impl<'w> Walk<'w> {
 
     /// Visits a node.
     #[cycle(nodes)]
-    fn visit(&mut self, node: &'w Node, scope: Scope<'w>, levels: usize) -> Result<(), AllocError> {
+    fn visit(&mut self, node: &'w Node, scope: Scope<'w>, levels: usize) -> Result<()> {
         if node.line == self.line {
             self.here = node.start;
             self.visit_here(node, scope)?;
@@ -249,7 +255,7 @@ impl<'w> Walk<'w> {
         items: &'w [Value],
         scope: Scope<'w>,
         levels: usize,
-    ) -> Result<(), AllocError> {
+    ) -> Result<()> {
         if items.is_empty() {
             return self.visit_all(control.other.as_slice(), scope, levels);
         }
@@ -274,7 +280,7 @@ impl<'w> Walk<'w> {
         value: Option<&'w Value>,
         scope: Scope<'w>,
         levels: usize,
-    ) -> Result<(), AllocError> {
+    ) -> Result<()> {
         let is_true = value.map(is_true);
         let outside = scope.sure_if(is_true.is_some());
         let dot = match control.control {
@@ -292,55 +298,35 @@ impl<'w> Walk<'w> {
     }
 
     /// Visits a node of the line.
-    fn visit_here(&mut self, node: &'w Node, scope: Scope<'w>) -> Result<(), AllocError> {
-        if matches!(self.wanted, Wanted::Any) && !matches!(node.what, NodeKind::Text(_)) {
-            return self.add(Vec::new(self.alloc), scope);
-        }
-        match &node.what {
-            NodeKind::Action(header) => self.visit_pipeline(&header.pipeline, scope),
-            NodeKind::Template(name, pipeline) => {
-                if let Wanted::Template(wanted) = self.wanted {
-                    if name.as_slice() == wanted {
-                        self.add(Vec::new(self.alloc), scope)?;
-                    }
+    fn visit_here(&mut self, node: &'w Node, scope: Scope<'w>) -> Result<()> {
+        let none = Vec::new(self.alloc);
+        let pipeline = match (self.wanted, &node.what) {
+            (_, NodeKind::Text(_)) => return Ok(()),
+            (Wanted::Any, _) => return self.add(none, scope),
+            (Wanted::Template(wanted), NodeKind::Template(name, _)) if name.as_slice() == wanted =>
+                {
+                    return self.add(none, scope);
                 }
-                match pipeline {
-                    Some(pipeline) => self.visit_pipeline(pipeline, scope),
-                    None => Ok(()),
-                }
+            (Wanted::Range, NodeKind::Control(control)) if control.control == Control::Range => {
+                return self.visit_range(&control.header.pipeline, scope);
             }
-            NodeKind::Control(control) => self.visit_header(control, scope),
-            _ => Ok(()),
-        }
-    }
-
-    /// Visits the header of a control.
-    fn visit_header(
-        &mut self,
-        control: &'w ControlNode,
-        scope: Scope<'w>,
-    ) -> Result<(), AllocError> {
-        let pipeline = &control.header.pipeline;
-        if matches!(control.control, Control::Range) && matches!(self.wanted, Wanted::Range) {
-            let operands = match pipeline.commands.as_slice() {
-                [command] => match only_operand(command) {
-                    Some(operand) => vec![in self.alloc; self.given(operand, scope)]?,
-                    None => Vec::new(self.alloc),
-                },
-                _ => Vec::new(self.alloc),
-            };
-            return self.add(operands, scope);
-        }
-        self.visit_pipeline(pipeline, scope)
-    }
-
-    /// Visits a pipeline.
-    fn visit_pipeline(
-        &mut self,
-        pipeline: &'w Pipeline,
-        scope: Scope<'w>,
-    ) -> Result<(), AllocError> {
+            (_, NodeKind::Action(header)) => &header.pipeline,
+            (_, NodeKind::Template(_, Some(pipeline))) => pipeline,
+            (_, NodeKind::Control(control)) => &control.header.pipeline,
+            _ => return Ok(()),
+        };
         self.visit_commands(pipeline.commands.as_slice(), scope, MOST_LEVELS)
+    }
+
+    /// Adds what a range visits.
+    fn visit_range(&mut self, pipeline: &'w Pipeline, scope: Scope<'w>) -> Result<()> {
+        let mut operands = Vec::new(self.alloc);
+        if let [command] = pipeline.commands.as_slice() {
+            if let Some(operand) = only_operand(command) {
+                operands.push(self.given(operand, scope))?;
+            }
+        }
+        self.add(operands, scope)
     }
 
     /// Visits the commands of a pipeline.
@@ -350,7 +336,7 @@ impl<'w> Walk<'w> {
         commands: &'w [Command],
         scope: Scope<'w>,
         levels: usize,
-    ) -> Result<(), AllocError> {
+    ) -> Result<()> {
         if levels == 0 {
             return Ok(());
         }
@@ -374,7 +360,7 @@ impl<'w> Walk<'w> {
         command: &'w Command,
         scope: Scope<'w>,
         levels: usize,
-    ) -> Result<(), AllocError> {
+    ) -> Result<()> {
         let operands = command.operands.as_slice();
         let is_junction = matches!(
             operands.first(),
@@ -396,7 +382,7 @@ impl<'w> Walk<'w> {
         command: &'w Command,
         piped: Option<Given<'w>>,
         scope: Scope<'w>,
-    ) -> Result<(), AllocError> {
+    ) -> Result<()> {
         let (Wanted::Call(wanted), [Operand::Function(func), rest @ ..]) = (
             self.wanted,
             command.operands.as_slice(),
@@ -417,16 +403,11 @@ impl<'w> Walk<'w> {
     }
 
     /// Looks whether a field of an operand is the one that is wanted, and adds the value that is asked for it.
-    fn visit_fields(&mut self, operand: &'w Operand, scope: Scope<'w>) -> Result<(), AllocError> {
+    fn visit_fields(&mut self, operand: &'w Operand, scope: Scope<'w>) -> Result<()> {
         let (Wanted::Field(wanted) | Wanted::Entry(wanted)) = self.wanted else {
             return Ok(());
         };
-        let names = match operand {
-            Operand::Fields(names) => names.as_slice(),
-            Operand::Variable { fields, .. } => fields.as_slice(),
-            Operand::Group { fields, .. } => fields.as_slice(),
-            _ => return Ok(()),
-        };
+        let names = fields_of(operand);
         for index in 0..names.len() {
             if names[index].as_slice() == wanted {
                 let given = self.before(operand, names.get(..index).unwrap_or(&[]), scope);
@@ -439,7 +420,7 @@ impl<'w> Walk<'w> {
     /// What is known of the value to which these fields of an operand lead.
     fn before(&self, operand: &'w Operand, names: &'w [Bytes], scope: Scope<'w>) -> Given<'w> {
         match operand {
-            Operand::Fields(_) => chain(Root::Dot, names, scope.dot),
+            Operand::Dot | Operand::Fields(_) => chain(Root::Dot, names, scope.dot),
             Operand::Variable { name, .. } if name.as_slice().is_empty() => {
                 chain(Root::Start, names, self.start)
             }
@@ -454,15 +435,10 @@ impl<'w> Walk<'w> {
     /// What is known of an operand.
     fn given(&self, operand: &'w Operand, scope: Scope<'w>) -> Given<'w> {
         match operand {
-            Operand::Dot => chain(Root::Dot, &[], scope.dot),
-            Operand::Fields(names) => self.before(operand, names.as_slice(), scope),
-            Operand::Variable { fields, .. } | Operand::Group { fields, .. } => {
-                self.before(operand, fields.as_slice(), scope)
-            }
             Operand::Number(number) => Given::Number(*number),
             Operand::Text(text) => Given::Text(text.as_slice()),
             Operand::Bool(is_true) => Given::Bool(*is_true),
-            _ => Given::Unknown,
+            _ => self.before(operand, fields_of(operand), scope),
         }
     }
 
@@ -481,18 +457,15 @@ impl<'w> Walk<'w> {
             [Operand::Function(Func::Index), operand, keys @ ..] => (operand, keys),
             _ => return None,
         };
-        let mut value = match operand {
-            Operand::Dot => scope.dot?,
-            Operand::Fields(names) => value_at(scope.dot?, names.as_slice())?,
-            Operand::Variable { name, fields } if name.as_slice().is_empty() => {
-                value_at(self.start?, fields.as_slice())?
+        let start = match operand {
+            Operand::Dot | Operand::Fields(_) => scope.dot,
+            Operand::Variable { name, .. } if name.as_slice().is_empty() => self.start,
+            Operand::Group { commands, .. } if levels > 0 => {
+                self.value_of(commands.as_slice(), scope, levels - 1)
             }
-            Operand::Group { commands, fields } if levels > 0 => value_at(
-                self.value_of(commands.as_slice(), scope, levels - 1)?,
-                fields.as_slice(),
-            )?,
-            _ => return None,
+            _ => None,
         };
+        let mut value = value_at(start?, fields_of(operand))?;
         for key in keys {
             value = item_at(value, key)?;
         }
@@ -500,13 +473,14 @@ impl<'w> Walk<'w> {
     }
 
     /// Adds a command.
-    fn add(&mut self, operands: Vec<Given<'w>>, scope: Scope<'w>) -> Result<(), AllocError> {
-        self.found.push(Found {
-            start: self.here,
-            operands,
-            is_sure: scope.is_sure,
-        })?;
-        Ok(())
+    fn add(&mut self, operands: Vec<Given<'w>>, scope: Scope<'w>) -> Result<()> {
+        Ok(
+            self.found.push(Found {
+                start: self.here,
+                operands,
+                is_sure: scope.is_sure,
+            })?,
+        )
     }
 }
 

@@ -1,8 +1,9 @@
 //! What a fault of a run is about: the operands of its command, and of which kind their values are.
 
+use crate::Result;
 use crate::commands::{Found, Given, Root, Wanted, commands_at, is_called};
 use serde_json::{Map, Value};
-use std::alloc::{AllocError, Global};
+use std::alloc::Global;
 use std::str::from_utf8;
 use tmpl_engine::{RunFault, RunFaultKind};
 use tmpl_funcs::{CallFault, Func};
@@ -32,7 +33,7 @@ pub(crate) fn detail_of(
     name: &[u8],
     data: &Value,
     fault: &RunFault<'_>,
-) -> Result<Detail, AllocError> {
+) -> Result<Detail> {
     let found = found_for(alloc, set, name, data, fault)?;
     let text = text_of(alloc, fault, found.as_slice())?;
     let start = found.first().map(|first| first.start);
@@ -40,7 +41,7 @@ pub(crate) fn detail_of(
 }
 
 /// The message about a fault, where these commands are found.
-fn text_of(alloc: Global, fault: &RunFault<'_>, found: &[Found<'_>]) -> Result<String, AllocError> {
+fn text_of(alloc: Global, fault: &RunFault<'_>, found: &[Found<'_>]) -> Result<String> {
     let said = Sentence::new(alloc);
     match fault.kind {
         RunFaultKind::Call(func, why) => say_call(said, func, why, operands_of(found)),
@@ -64,7 +65,7 @@ fn found_for<'w>(
     name: &[u8],
     data: &'w Value,
     fault: &RunFault<'w>,
-) -> Result<Vec<Found<'w>>, AllocError> {
+) -> Result<Vec<Found<'w>>> {
     let wanted = match fault.kind {
         RunFaultKind::Call(func, _) => Wanted::Call(func),
         RunFaultKind::NoField(field) => Wanted::Field(field),
@@ -106,9 +107,13 @@ fn is_fine(wanted: Wanted<'_>, found: &Found<'_>) -> bool {
         return false;
     };
     match (wanted, value_in(given)) {
-        (Wanted::Call(Func::Len), Some(value)) => has_length(value),
+        (Wanted::Call(Func::Len), Some(value)) => {
+            matches!(value, Value::String(_) | Value::Array(_) | Value::Object(_))
+        }
         (Wanted::Field(_), Some(value)) => value.is_object(),
-        (Wanted::Entry(name), Some(value)) => !value.is_object() || has_field(value, name),
+        (Wanted::Entry(name), Some(value)) => {
+            !value.is_object() || from_utf8(name).is_ok_and(|name| value.get(name).is_some())
+        }
         _ => false,
     }
 }
@@ -118,19 +123,6 @@ fn value_in<'w>(given: &Given<'w>) -> Option<&'w Value> {
     match given {
         Given::Chain { value, .. } => Some(*value),
         _ => None,
-    }
-}
-
-/// Whether a value has a length.
-fn has_length(value: &Value) -> bool {
-    value.is_string() || value.is_array() || value.is_object()
-}
-
-/// Whether a value has a field of this name.
-fn has_field(value: &Value, name: &[u8]) -> bool {
-    match from_utf8(name) {
-        Ok(name) => value.get(name).is_some(),
-        Err(_) => false,
     }
 }
 
@@ -160,8 +152,15 @@ fn say_call(said: Sentence, func: Func, why: CallFault, operands: &[Given<'_>]) 
     if matches!(why, CallFault::WrongCount) {
         return said;
     }
-    let (said, is_said) = say_operands(said, operands);
-    let said = if is_said { said.say("; ") } else { said };
+    let mut said = said;
+    let mut between = "";
+    for operand in operands {
+        if is_known(operand) {
+            said = say_known(said.say(between), operand);
+            between = ", ";
+        }
+    }
+    let said = said.say(if between.is_empty() { "" } else { "; " });
     said.say(taken_by(func, why))
 }
 
@@ -185,20 +184,6 @@ fn taken_by(func: Func, why: CallFault) -> &'static str {
         (Func::Printf, _) => "its format is a string",
         _ => "it takes arguments of other kinds",
     }
-}
-
-/// Says what is known of operands, one after the other, and whether something is.
-fn say_operands(said: Sentence, operands: &[Given<'_>]) -> (Sentence, bool) {
-    let mut said = said;
-    let mut is_said = false;
-    for operand in operands {
-        if is_known(operand) {
-            said = if is_said { said.say(", ") } else { said };
-            said = say_known(said, operand);
-            is_said = true;
-        }
-    }
-    (said, is_said)
 }
 
 /// Whether something is known of an operand.

@@ -1,5 +1,6 @@
 //! Something that is found.
-ghost use Rattle.std.specs.Prelude.{◌≡◌};
+ghost use Rattle.std.specs.Prelude.{◌≡◌, string_bytes};
+ghost use Rattle.tmpl_report.specs.Errors.{error_at};
 ghost use Rattle.tmpl_report.specs.Level.{is_error, word_of};
 ghost use Rattle.tmpl_report.specs.computed.Entries.{is_same};
 
@@ -62,7 +63,23 @@ impl<'a> Model for Entry<'a> {
     } };
 }
 
-impl Entry<'_> {
+impl<'a> Entry<'a> {
+    /// An error at a line and a column, without a note.
+    pub(crate) fn error(file: &'a str, place: (u64, u64), rule: Rule, text: String) -> Entry<'a>
+        ensures { result ≡ error_at file.now place rule.id.now (string_bytes text) }
+    {
+        let (line, column) = place;
+        Entry {
+            file,
+            level: Level::Error,
+            line,
+            column,
+            rule,
+            text,
+            note: None,
+        }
+    }
+
     /// Whether it is an error.
     pub(crate) fn is_error(&self) -> bool
         ensures { result ≡ is_error self.now.level }

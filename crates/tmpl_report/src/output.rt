@@ -9,12 +9,13 @@ mod schema;
 mod spread;
 mod strings;
 
+use crate::Result;
 use crate::findings::Findings;
 use crate::output::data::add_over_data;
 use crate::output::schema::add_over_schema;
 use crate::output::spread::add_file;
 use crate::source::{Question, Source, Sources, Task};
-use std::alloc::{AllocError, Global};
+use std::alloc::Global;
 use tmpl_formats::Format;
 use tmpl_json_schema::read_document;
 use tmpl_syntax::{NameHash, Set};
@@ -22,12 +23,11 @@ use tmpl_syntax::{NameHash, Set};
 /// Adds where the output ceases to be of the format that is asked for, if one is and nothing else is wrong: over the data
 /// that is given, or else over data of the schema that are found.
 pub(crate) fn add_output<'a>(
-    alloc: Global,
     hash: NameHash,
     findings: &mut Findings<'a>,
     question: &Question<'a>,
     sources: &Sources<'a>,
-) -> Result<(), AllocError>
+) -> Result<()>
     ensures { OnOk result (AddsOfOutput question.now findings.old findings.new) }
 {
     let Some(word) = question.writes else {
@@ -37,23 +37,23 @@ pub(crate) fn add_output<'a>(
         return Ok(());
     }
     match question.first {
-        Some(first) => add_written(alloc, hash, findings, question, sources, word, first),
+        Some(first) => add_written(hash, findings, question, sources, word, first),
         None => Ok(()),
     }
 }
 
 /// The same where a format and files are given, and nothing is wrong.
 fn add_written<'a>(
-    alloc: Global,
     hash: NameHash,
     findings: &mut Findings<'a>,
     question: &Question<'a>,
     sources: &Sources<'a>,
     word: &str,
     first: &'a str,
-) -> Result<(), AllocError>
+) -> Result<()>
     ensures { OnOk result (AddsBroken findings.old findings.new) }
 {
+    let alloc = findings.alloc;
     let Some(format) = Format::named(alloc, word.as_bytes())? else {
         return Ok(());
     };
@@ -80,7 +80,7 @@ fn add_of_schema<'t, 'a>(
     findings: &mut Findings<'a>,
     schema: &Source<'a>,
     format: &'t Format,
-) -> Result<(), AllocError>
+) -> Result<()>
     ensures { OnOk result (AddsBroken findings.old findings.new) }
 {
     match read_document(task.alloc, schema.bytes.as_slice())? {
@@ -90,7 +90,7 @@ fn add_of_schema<'t, 'a>(
 }
 
 /// The templates of the files; none where one is not accepted, or is missing.
-fn set_of(alloc: Global, hash: NameHash, sources: &Sources<'_>) -> Result<Option<Set>, AllocError> {
+fn set_of(alloc: Global, hash: NameHash, sources: &Sources<'_>) -> Result<Option<Set>> {
     if sources.is_short {
         return Ok(None);
     }

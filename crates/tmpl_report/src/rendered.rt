@@ -6,6 +6,7 @@ ghost use Rattle.tmpl_engine.specs.View.{templates_in};
 ghost use Rattle.tmpl_report.specs.Rendered.{is_limit, run_rules};
 ghost use Rattle.tmpl_report.specs.computed.Ended.{IsEnd};
 
+use crate::Result;
 use std::alloc::{AllocError, Global};
 use tmpl_engine::{Data, MissingKey, Options, RenderError, Renderer, RunFault, RunFaultKind, Sink};
 
@@ -42,7 +43,7 @@ impl<'r> Render<'r> {
         alloc: Global,
         tree: &'a Data,
         out: &mut S,
-    ) -> Result<End<'a>, AllocError>
+    ) -> Result<End<'a>>
         requires { (S.so_far out.old).failures < 2 ^ 64 - 1 }
         ensures { IfOk result (IsEnd (run_rules self.now.mode) (templates_in self.now.renderer.now) self.now.name.now
             (value_of tree.now)) }

@@ -2,6 +2,7 @@
 ghost use Rattle.std.specs.Prelude.{OnOk};
 ghost use Rattle.tmpl_report.specs.computed.Entries.{AddsBroken};
 
+use crate::Result;
 use crate::findings::Findings;
 use crate::output::message::{broken_entry, broken_text, shown_text};
 use crate::output::render::{Broken, Writer};
@@ -16,7 +17,7 @@ pub(crate) fn add_over_data<'t, 'a>(
     findings: &mut Findings<'a>,
     data: &Source<'a>,
     format: &'t Format,
-) -> Result<(), AllocError>
+) -> Result<()>
     ensures { OnOk result (AddsBroken findings.old findings.new) }
 {
     let tree = match Data::from_json(task.alloc, data.bytes.as_slice()) {
@@ -38,7 +39,7 @@ fn add_broken<'a>(
     findings: &mut Findings<'a>,
     tree: &Data,
     broken: &Broken,
-) -> Result<(), AllocError>
+) -> Result<()>
     ensures { OnOk result (AddsBroken findings.old findings.new) }
 {
     let text = broken_text(&writer.task, "writes no ", broken)?;

@@ -1,12 +1,13 @@
 //! What is reported of an output that is not of a format.
 ghost use Rattle.tmpl_report.specs.Errors.{IsNotOfFormat};
 
-use crate::entry::{Entry, Level};
+use crate::Result;
+use crate::entry::Entry;
 use crate::output::render::Broken;
 use crate::output::spread::Origin;
 use crate::rule::NOT_OF_FORMAT;
 use crate::source::Task;
-use std::alloc::{AllocError, Global};
+use std::alloc::Global;
 use tmpl_hints::Sentence;
 use tmpl_syntax::Place;
 
@@ -16,11 +17,7 @@ const BEFORE: usize = 60;
 const AFTER: usize = 20;
 
 /// The message: that an output is of no such format, and what the format has where it ceases to be.
-pub(super) fn broken_text(
-    task: &Task<'_, '_>,
-    words: &str,
-    broken: &Broken,
-) -> Result<String, AllocError> {
+pub(super) fn broken_text(task: &Task<'_, '_>, words: &str, broken: &Broken) -> Result<String> {
     let output = broken.output.as_slice();
     let place = Place::first().at(output, broken.mistake.offset.min(output.len()));
     Sentence::new(task.alloc)
@@ -36,23 +33,16 @@ pub(super) fn broken_text(
 }
 
 /// The output around a mistake, and the data for which it is written, where they are not those that are given.
-pub(super) fn shown_text(
-    alloc: Global,
-    broken: &Broken,
-    data: Option<&str>,
-) -> Result<String, AllocError> {
+pub(super) fn shown_text(alloc: Global, broken: &Broken, data: Option<&str>) -> Result<String> {
     let output = broken.output.as_slice();
     let offset = broken.mistake.offset.min(output.len());
     let begin = offset.saturating_sub(BEFORE);
     let end = offset.saturating_add(AFTER).min(output.len());
-    let mut said = Sentence::new(alloc).say("writes ");
-    if begin > 0 {
-        said = said.say("..");
-    }
-    said = said.quote(output.get(begin..end).unwrap_or(&[]));
-    if end < output.len() {
-        said = said.say("..");
-    }
+    let said = Sentence::new(alloc)
+        .say("writes ")
+        .say(if begin > 0 { ".." } else { "" })
+        .quote(output.get(begin..end).unwrap_or(&[]))
+        .say(if end < output.len() { ".." } else { "" });
     match data {
         Some(data) => said.say(" for ").say(data).finish(),
         None => said.finish(),
@@ -70,13 +60,7 @@ pub(super) fn broken_entry<'a>(
 {
     let found = origin.and_then(|o| task.sources.place(o.file.as_bytes(), o.start));
     let (file, place) = found.unwrap_or((task.first, Place::first()));
-    Entry {
-        file,
-        level: Level::Error,
-        line: place.line,
-        column: place.column,
-        rule: NOT_OF_FORMAT,
-        text,
-        note: Some(note),
-    }
+    let mut entry = Entry::error(file, (place.line, place.column), NOT_OF_FORMAT, text);
+    entry.note = Some(note);
+    entry
 }

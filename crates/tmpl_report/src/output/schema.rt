@@ -3,6 +3,7 @@
 ghost use Rattle.std.specs.Prelude.{OnOk};
 ghost use Rattle.tmpl_report.specs.computed.Entries.{AddsBroken};
 
+use crate::Result;
 use crate::findings::Findings;
 use crate::output::message::{broken_entry, broken_text, shown_text};
 use crate::output::render::Writer;
@@ -71,7 +72,7 @@ pub(crate) fn add_over_schema<'t, 'a>(
     findings: &mut Findings<'a>,
     document: &Value,
     format: &'t Format,
-) -> Result<(), AllocError>
+) -> Result<()>
     ensures { OnOk result (AddsBroken findings.old findings.new) }
 {
     let renderer = Renderer::new(task.alloc, task.set)?;
@@ -96,7 +97,7 @@ fn add_found<'a>(
     task: &Task<'_, 'a>,
     findings: &mut Findings<'a>,
     found: Vec<Found<'a>>,
-) -> Result<(), AllocError>
+) -> Result<()>
     ensures { OnOk result (AddsBroken findings.old findings.new) }
 {
     for one in found.into_iter() {
@@ -109,7 +110,7 @@ fn add_found<'a>(
 
 impl<'a> Search<'_, '_, '_, 'a> {
     /// Tries the usual value of the schema, and each that differs from it by one choice.
-    fn look(&self, hunt: &mut Hunt<'a>, is_lean: bool) -> Result<(), AllocError> {
+    fn look(&self, hunt: &mut Hunt<'a>, is_lean: bool) -> Result<()> {
         let counts = self.try_drawn(hunt, is_lean, &[])?;
         for (point, count) in counts.iter().enumerate() {
             for away in 1..*count {
@@ -123,12 +124,7 @@ impl<'a> Search<'_, '_, '_, 'a> {
     }
 
     /// Tries the value of these choices, also with other strings in it. Gives between how many was chosen, at each point.
-    fn try_drawn(
-        &self,
-        hunt: &mut Hunt<'a>,
-        is_lean: bool,
-        flips: &[Flip],
-    ) -> Result<Vec<usize>, AllocError> {
+    fn try_drawn(&self, hunt: &mut Hunt<'a>, is_lean: bool, flips: &[Flip]) -> Result<Vec<usize>> {
         let mut draw = Draw::new(self.writer.task.alloc, self.root, is_lean, flips);
         let drawn = draw.whole()?;
         let Draw { counts, .. } = draw;
@@ -140,7 +136,7 @@ impl<'a> Search<'_, '_, '_, 'a> {
     }
 
     /// Tries a value with each hostile string in the place of each of its strings.
-    fn try_strings(&self, hunt: &mut Hunt<'a>, value: &Value) -> Result<(), AllocError> {
+    fn try_strings(&self, hunt: &mut Hunt<'a>, value: &Value) -> Result<()> {
         let count = count_strings(value, LEVELS);
         for number in 1..=count.min(MOST_RENDERS) {
             for text in HOSTILE {
@@ -156,7 +152,7 @@ impl<'a> Search<'_, '_, '_, 'a> {
     }
 
     /// Renders the template over a value, if that conforms, and keeps what is found.
-    fn try_value(&self, hunt: &mut Hunt<'a>, value: &Value) -> Result<(), AllocError> {
+    fn try_value(&self, hunt: &mut Hunt<'a>, value: &Value) -> Result<()> {
         hunt.spend(1);
         if !conforms(self.root, LEVELS, self.root, value) {
             return Ok(());
@@ -172,7 +168,7 @@ impl<'a> Search<'_, '_, '_, 'a> {
     }
 
     /// Keeps what is found of the output over data, unless it is of an action of which something is found.
-    fn try_data(&self, hunt: &mut Hunt<'a>, tree: &Data, data: &str) -> Result<(), AllocError> {
+    fn try_data(&self, hunt: &mut Hunt<'a>, tree: &Data, data: &str) -> Result<()> {
         let alloc = self.writer.task.alloc;
         let is_long = self.writer.is_long(tree)?;
         let Some(broken) = self.writer.broken_over(tree)? else {
@@ -183,28 +179,11 @@ impl<'a> Search<'_, '_, '_, 'a> {
         hunt.bytes = hunt.bytes.saturating_sub(broken.output.len());
         let origin = self.writer.origin_of(tree, broken.mistake.offset)?;
         let text = broken_text(&self.writer.task, "may write no ", &broken)?;
-        let shown = if data.len() > MOST_SHOWN {
-            None
-        } else {
-            Some(data)
-        };
+        let shown = Some(data).filter(|data| data.len() <= MOST_SHOWN);
         let note = shown_text(alloc, &broken, shown)?;
-        let is_there = hunt
-            .found
-            .iter()
-            .any(|other| is_same(&other.origin, &origin));
-        if !is_there {
+        if !hunt.found.iter().any(|other| other.origin == origin) {
             hunt.found.push(Found { origin, text, note })?;
         }
         Ok(())
-    }
-}
-
-/// Whether two actions are the same.
-fn is_same(one: &Option<Origin<'_>>, other: &Option<Origin<'_>>) -> bool {
-    match (one, other) {
-        (Some(one), Some(other)) => one.file == other.file && one.start == other.start,
-        (None, None) => true,
-        _ => false,
     }
 }

@@ -1,6 +1,7 @@
 //! The same templates with each node on a line of its own, so that the line of a fault says of which node it is. Before each
 //! node stands a comment with a newline in it, which writes nothing and trims what the node's own marker trims.
 
+use crate::Result;
 use crate::source::Source;
 use std::alloc::{AllocError, Global};
 use tmpl_syntax::{Node, NodeKind, ParseKind, Set, parse_file};
@@ -26,7 +27,7 @@ pub(crate) struct SpreadSet<'a> {
 }
 
 /// A node of a file as it was given.
-#[derive(Clone, Copy)]
+#[derive(Clone, Copy, PartialEq)]
 pub(crate) struct Origin<'a> {
     pub(crate) file: &'a str,
     /// How many bytes of the file stand before it.
@@ -39,7 +40,7 @@ impl<'a> SpreadSet<'a> {
         alloc: Global,
         set: &Set,
         files: &[Source<'a>],
-    ) -> Result<Option<SpreadSet<'a>>, AllocError> {
+    ) -> Result<Option<SpreadSet<'a>>> {
         let mut all = SpreadSet {
             set: Set::new(alloc),
             files: Vec::new(alloc),
@@ -61,29 +62,19 @@ impl<'a> SpreadSet<'a> {
 
     /// The node on a line of a file.
     pub(crate) fn origin(&self, file: &[u8], line: u64) -> Option<Origin<'a>> {
-        for spread in self.files.as_slice() {
-            if spread.name.as_bytes() == file {
-                for (at, start) in spread.lines.as_slice() {
-                    if *at == line {
-                        return Some(Origin {
-                            file: spread.name,
-                            start: *start,
-                        });
-                    }
-                }
-            }
-        }
-        None
+        let mut files = self.files.as_slice().iter();
+        let spread = files.find(|spread| spread.name.as_bytes() == file)?;
+        let mut lines = spread.lines.as_slice().iter();
+        let (_, start) = lines.find(|found| found.0 == line)?;
+        Some(Origin {
+            file: spread.name,
+            start: *start,
+        })
     }
 }
 
 /// Adds the templates of a file to a set. Whether the file is accepted.
-pub(crate) fn add_file(
-    alloc: Global,
-    set: &mut Set,
-    file: &str,
-    bytes: &[u8],
-) -> Result<bool, AllocError> {
+pub(crate) fn add_file(alloc: Global, set: &mut Set, file: &str, bytes: &[u8]) -> Result<bool> {
     match parse_file(alloc, set, file, bytes) {
         Ok(()) => Ok(true),
         Err(fault) if matches!(fault.kind, ParseKind::OutOfMemory) => Err(AllocError),
@@ -92,7 +83,7 @@ pub(crate) fn add_file(
 }
 
 /// Where the nodes of a file begin, each place once, in order.
-fn starts_in(alloc: Global, set: &Set, file: &str) -> Result<Vec<usize>, AllocError> {
+fn starts_in(alloc: Global, set: &Set, file: &str) -> Result<Vec<usize>> {
     let mut starts = Vec::new(alloc);
     for name in set.names() {
         if let Some(tree) = set.get(name) {
@@ -108,7 +99,7 @@ fn starts_in(alloc: Global, set: &Set, file: &str) -> Result<Vec<usize>, AllocEr
 
 /// Adds where nodes begin.
 #[cycle(starts)]
-fn add_starts(nodes: &[Node], starts: &mut Vec<usize>) -> Result<(), AllocError> {
+fn add_starts(nodes: &[Node], starts: &mut Vec<usize>) -> Result<()> {
     for node in nodes {
         starts.push(node.start)?;
         if let NodeKind::Control(control) = &node.what {
@@ -125,13 +116,14 @@ fn spread_file(
     bytes: &[u8],
     starts: &[usize],
     lines: &mut Vec<(u64, usize)>,
-) -> Result<Vec<u8>, AllocError> {
+) -> Result<Vec<u8>> {
     let mut made = Vec::new(alloc);
     let mut from: usize = 0;
     let mut line: u64 = 1;
     for start in starts {
         let before = bytes.get(from..*start).unwrap_or(&[]);
-        line = line.saturating_add(newlines(before)).saturating_add(1);
+        let newlines = before.iter().filter(|byte| **byte == b'\n').count() as u64;
+        line = line.saturating_add(newlines).saturating_add(1);
         made.extend_from_slice(before)?;
         made.extend_from_slice(comment_before(bytes.get(*start..).unwrap_or(&[])))?;
         lines.push((line, *start))?;
@@ -147,15 +139,4 @@ fn comment_before(rest: &[u8]) -> &'static [u8] {
         [b'{', b'{', b'-', b' ' | b'\t' | b'\r' | b'\n', ..] => TRIMMING,
         _ => COMMENT,
     }
-}
-
-/// How many newlines there are.
-fn newlines(bytes: &[u8]) -> u64 {
-    let mut count: u64 = 0;
-    for byte in bytes {
-        if *byte == b'\n' {
-            count = count.saturating_add(1);
-        }
-    }
-    count
 }

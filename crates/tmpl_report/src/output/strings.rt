@@ -1,7 +1,8 @@
 //! Values with other strings in them, which a format may not take.
 
+use crate::Result;
 use serde_json::{Map, Value, put};
-use std::alloc::{AllocError, Global};
+use std::alloc::Global;
 
 /// Strings that break outputs in which they are not quoted, or are quoted for something else.
 pub(super) static HOSTILE: [&str; 20] = [
@@ -39,7 +40,7 @@ pub(super) fn with_string(
     value: &Value,
     text: &str,
     number: &mut usize,
-) -> Result<Value, AllocError> {
+) -> Result<Value> {
     match value {
         Value::String(_) => {
             let is_meant = *number == 1;

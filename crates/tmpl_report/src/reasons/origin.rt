@@ -3,6 +3,7 @@
 ghost use Rattle.std.specs.Prelude.{◌≡◌};
 ghost use Rattle.tmpl_report.specs.declared.reasons.origin.Lost.TheVariants as lost;
 
+use crate::Result;
 use percent_encoding::{DecodeError, percent_decode};
 use serde_json::Value;
 use std::alloc::{AllocError, AllocFailed, Global};
@@ -78,7 +79,7 @@ impl Origin {
     }
 
     /// A copy of it.
-    pub(crate) fn copy(&self, alloc: Global) -> Result<Origin, AllocError> {
+    pub(crate) fn copy(&self, alloc: Global) -> Result<Origin> {
         Ok(Origin {
             places: self.places.clone()?,
             is_there: self.is_there,
@@ -119,7 +120,7 @@ impl Origin {
 }
 
 /// The pointer to a part of what another points to.
-pub(crate) fn below(alloc: Global, place: &str, part: &str) -> Result<String, AllocError> {
+pub(crate) fn below(alloc: Global, place: &str, part: &str) -> Result<String> {
     let mut pointer = String::from_str(alloc, place)?;
     pointer.push('/')?;
     for letter in part.chars() {

@@ -16,6 +16,7 @@ ghost use Rattle.tmpl_report.specs.Failing.{AreRight, IsDoubted, IsRight, Speaks
 ghost use Rattle.tmpl_json_schema.specs.Document.{IsOfSchema};
 ghost use Rattle.tmpl_report.specs.computed.Asked.{asked_in};
 
+use crate::Result;
 use serde_json::Value;
 use std::alloc::{AllocError, Global};
 use std::str::from_utf8;
@@ -147,7 +148,7 @@ pub(crate) fn is_doubted(doubt: &Doubt, fault: &RunFault<'_>, stops: &[Bytes]) -
 }
 
 /// What `tmpl` says of a fault, after the file, the line and the template.
-pub(crate) fn said_of(alloc: Global, kind: &RunFaultKind<'_>) -> Result<String, AllocError>
+pub(crate) fn said_of(alloc: Global, kind: &RunFaultKind<'_>) -> Result<String>
     ensures { IfOk result (λ said. IsUtf8 (cause_text (cause_of kind.now))
         → string_bytes said ≡ cause_text (cause_of kind.now)) }
 {
@@ -184,7 +185,7 @@ impl Question<'_> {
     }
 
     /// The fault of the run over data, if it has one.
-    fn fault<'a>(&'a self, tree: &'a Data) -> Result<Option<RunFault<'a>>, AllocError>
+    fn fault<'a>(&'a self, tree: &'a Data) -> Result<Option<RunFault<'a>>>
         ensures { IfOk result (λ found. IfSome found (λ fault.
             fault_over (rules_by self.now.mode) (templates_in self.now.renderer.now) self.now.name.now
             (value_of tree.now) ≡ Some (fault_seen fault))) }
@@ -197,10 +198,7 @@ impl Question<'_> {
     }
 
     /// The failure of each alarm for the value that was found for it, where that makes the template fail there.
-    pub(crate) fn failures(
-        &self,
-        values: Vec<Option<Value>>,
-    ) -> Result<Vec<Option<Failure>>, AllocError>
+    pub(crate) fn failures(&self, values: Vec<Option<Value>>) -> Result<Vec<Option<Failure>>>
         ensures { IfOk result (λ failures. AreRight (asked_in self.now) self.now.doubts.now failures.items) }
     {
         let mut values = values.into_iter();
@@ -214,7 +212,7 @@ impl Question<'_> {
 
     /// The failure of an alarm for a value, if there is one, its text is short, it conforms to the schema, and it makes
     /// the template fail there.
-    fn failure(&self, doubt: &Doubt, value: Option<Value>) -> Result<Option<Failure>, AllocError>
+    fn failure(&self, doubt: &Doubt, value: Option<Value>) -> Result<Option<Failure>>
         ensures { IfOk result (λ found. IfSome found (IsRight (asked_in self.now) doubt.now)) }
     {
         let Some(value) = value else {
@@ -232,7 +230,7 @@ impl Question<'_> {
     }
 
     /// Whether the value of this text conforms to the schema.
-    fn is_of_schema(&self, text: &str) -> Result<bool, AllocError>
+    fn is_of_schema(&self, text: &str) -> Result<bool>
         ensures { IfOk result (λ is_of. is_of ≡ true → (v : tree.Value) → data_of text.now ≡ Ok v
             → IsOfSchema (view self.now.root.now) v) }
     {
@@ -244,12 +242,7 @@ impl Question<'_> {
     }
 
     /// The failure of an alarm for the data that this text is, if they make the template fail there.
-    fn failure_over(
-        &self,
-        doubt: &Doubt,
-        tree: &Data,
-        text: String,
-    ) -> Result<Option<Failure>, AllocError>
+    fn failure_over(&self, doubt: &Doubt, tree: &Data, text: String) -> Result<Option<Failure>>
         requires value { data_of (string_bytes text) ≡ Ok (value_of tree.now) }
         requires conforms { IsOfSchema (view self.now.root.now) (value_of tree.now) }
         ensures { IfOk result (λ found. IfSome found (IsRight (asked_in self.now) doubt.now)) }
@@ -266,7 +259,7 @@ impl Question<'_> {
         doubt: &Doubt,
         fault: &RunFault<'_>,
         text: String,
-    ) -> Result<Option<Failure>, AllocError>
+    ) -> Result<Option<Failure>>
         ensures { IfOk result (λ found. IfSome found (λ failure. (failure.data ≡ text)
             × IsDoubted doubt.now (fault_seen fault.now)
             × ¬ (MayEnd self.now.stops.now (fault_seen fault.now).cause)
