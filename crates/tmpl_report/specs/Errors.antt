@@ -47,11 +47,8 @@ abbrev pub error_of : List ℕ → Problem → Finding
 error_of file p = error_at file (p.refused.line, p.refused.column) (rule_for p.refused.kind) (text_of p)
 
 -- that there are at least so many more, where some are left out
-abbrev pub left_error : List ℕ → ℕ → Finding
-left_error file left = error_at file (1, 1) (codes "too-many-errors") (left_words left)
-
 abbrev pub left_in : List ℕ → ℕ → List Finding
-left_in file left = if left == 0 then [] else left_error file left ∷ []
+left_in file left = if left == 0 then [] else error_at file (1, 1) (codes "too-many-errors") (left_words left) ∷ []
 
 -- all that is reported of it: first what is refused
 abbrev pub errors_of : List ℕ → Problems → List Finding

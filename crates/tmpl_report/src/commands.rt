@@ -238,7 +238,7 @@ impl<'w> Walk<'w> {
             return Ok(());
         };
         let commands = control.header.pipeline.commands.as_slice();
-        let value = self.value_of(commands, scope, MOST_LEVELS);
+        let value = self.value(commands, scope, MOST_LEVELS);
         match (control.control, value) {
             (Control::Range, Some(Value::Array(items))) => {
                 self.visit_items(control, items.as_slice(), scope, levels)
@@ -315,7 +315,7 @@ impl<'w> Walk<'w> {
             (_, NodeKind::Control(control)) => &control.header.pipeline,
             _ => return Ok(()),
         };
-        self.visit_commands(pipeline.commands.as_slice(), scope, MOST_LEVELS)
+        self.commands(pipeline.commands.as_slice(), scope, MOST_LEVELS)
     }
 
     /// Adds what a range visits.
@@ -331,19 +331,14 @@ impl<'w> Walk<'w> {
 
     /// Visits the commands of a pipeline.
     #[cycle(commands)]
-    fn visit_commands(
-        &mut self,
-        commands: &'w [Command],
-        scope: Scope<'w>,
-        levels: usize,
-    ) -> Result<()> {
+    fn commands(&mut self, commands: &'w [Command], scope: Scope<'w>, levels: usize) -> Result<()> {
         if levels == 0 {
             return Ok(());
         }
         let mut piped: Option<Given<'w>> = None;
         for command in commands {
             self.visit_command(command, piped, scope)?;
-            self.visit_operands(command, scope, levels - 1)?;
+            self.operands(command, scope, levels - 1)?;
             piped = Some(match (piped, only_operand(command)) {
                 (None, Some(operand)) => self.given(operand, scope),
                 _ => Given::Unknown,
@@ -355,12 +350,7 @@ impl<'w> Walk<'w> {
     /// Visits what stands in parentheses among the operands of a command, and the fields that are wanted. Of `and` and `or`
     /// not each operand is evaluated.
     #[cycle(commands)]
-    fn visit_operands(
-        &mut self,
-        command: &'w Command,
-        scope: Scope<'w>,
-        levels: usize,
-    ) -> Result<()> {
+    fn operands(&mut self, command: &'w Command, scope: Scope<'w>, levels: usize) -> Result<()> {
         let operands = command.operands.as_slice();
         let is_junction = matches!(
             operands.first(),
@@ -369,7 +359,7 @@ impl<'w> Walk<'w> {
         let scope = scope.sure_if(!is_junction);
         for operand in operands {
             if let Operand::Group { commands, .. } = operand {
-                self.visit_commands(commands.as_slice(), scope, levels)?;
+                self.commands(commands.as_slice(), scope, levels)?;
             }
             self.visit_fields(operand, scope)?;
         }
@@ -425,7 +415,7 @@ impl<'w> Walk<'w> {
                 chain(Root::Start, names, self.start)
             }
             Operand::Group { commands, .. } => {
-                let value = self.value_of(commands.as_slice(), scope, MOST_LEVELS);
+                let value = self.value(commands.as_slice(), scope, MOST_LEVELS);
                 chain(Root::Parentheses, names, value)
             }
             _ => Given::Unknown,
@@ -443,12 +433,7 @@ impl<'w> Walk<'w> {
     }
 
     /// The value of a pipeline of a chain of fields, or of `index` with keys that are written out, where it is known.
-    fn value_of(
-        &self,
-        commands: &'w [Command],
-        scope: Scope<'w>,
-        levels: usize,
-    ) -> Option<&'w Value> {
+    fn value(&self, commands: &'w [Command], scope: Scope<'w>, levels: usize) -> Option<&'w Value> {
         let [command] = commands else {
             return None;
         };
@@ -461,7 +446,7 @@ impl<'w> Walk<'w> {
             Operand::Dot | Operand::Fields(_) => scope.dot,
             Operand::Variable { name, .. } if name.as_slice().is_empty() => self.start,
             Operand::Group { commands, .. } if levels > 0 => {
-                self.value_of(commands.as_slice(), scope, levels - 1)
+                self.value(commands.as_slice(), scope, levels - 1)
             }
             _ => None,
         };

@@ -2,13 +2,13 @@
 
 use crate::Result;
 use crate::commands::{Found, Given, Root, Wanted, commands_at, is_called};
+use crate::source::Task;
 use serde_json::{Map, Value};
 use std::alloc::Global;
 use std::str::from_utf8;
 use tmpl_engine::{RunFault, RunFaultKind};
 use tmpl_funcs::{CallFault, Func};
 use tmpl_hints::Sentence;
-use tmpl_syntax::Set;
 use tmpl_values::Bytes;
 
 /// The most keys of a map that are shown.
@@ -26,16 +26,10 @@ pub(crate) struct Detail {
     pub(crate) start: Option<usize>,
 }
 
-/// What is known of a fault. The template that is rendered has this name, and starts with these data.
-pub(crate) fn detail_of(
-    alloc: Global,
-    set: &Set,
-    name: &[u8],
-    data: &Value,
-    fault: &RunFault<'_>,
-) -> Result<Detail> {
-    let found = found_for(alloc, set, name, data, fault)?;
-    let text = text_of(alloc, fault, found.as_slice())?;
+/// What is known of a fault of the template over these data.
+pub(crate) fn detail_of(task: &Task<'_, '_>, data: &Value, fault: &RunFault<'_>) -> Result<Detail> {
+    let found = found_for(task, data, fault)?;
+    let text = text_of(task.alloc, fault, found.as_slice())?;
     let start = found.first().map(|first| first.start);
     Ok(Detail { text, start })
 }
@@ -60,12 +54,11 @@ fn text_of(alloc: Global, fault: &RunFault<'_>, found: &[Found<'_>]) -> Result<S
 
 /// The commands that the fault may be of.
 fn found_for<'w>(
-    alloc: Global,
-    set: &'w Set,
-    name: &[u8],
+    task: &Task<'w, '_>,
     data: &'w Value,
     fault: &RunFault<'w>,
 ) -> Result<Vec<Found<'w>>> {
+    let Task { alloc, set, .. } = *task;
     let wanted = match fault.kind {
         RunFaultKind::Call(func, _) => Wanted::Call(func),
         RunFaultKind::NoField(field) => Wanted::Field(field),
@@ -77,7 +70,7 @@ fn found_for<'w>(
     let Some(tree) = set.get(fault.template) else {
         return Ok(Vec::new(alloc));
     };
-    let is_known = fault.template == name && !is_called(set, name);
+    let is_known = fault.template == task.name() && !is_called(set, task.name());
     let start = if is_known { Some(data) } else { None };
     let mut found = commands_at(alloc, tree, fault.line, wanted, start)?;
     found.retain(|found| !is_fine(wanted, found));
@@ -235,12 +228,11 @@ fn say_keys(said: Sentence, members: &Map<String, Value>) -> Sentence {
 
 /// Says that a range does not visit a value.
 fn say_no_range(said: Sentence, operands: &[Given<'_>]) -> Sentence {
-    match operands {
-        [operand] if is_known(operand) => say_known(said, operand).say(
-            ": a range visits a list, a map or the numbers below an integer",
-        ),
-        _ => said.say("a range visits a list, a map or the numbers below an integer"),
-    }
+    let said = match operands {
+        [operand] if is_known(operand) => say_known(said, operand).say(": "),
+        _ => said,
+    };
+    said.say("a range visits a list, a map or the numbers below an integer")
 }
 
 /// Says what an operand is.
@@ -300,11 +292,8 @@ fn say_kind(said: Sentence, given: &Given<'_>) -> Sentence {
 fn say_value(said: Sentence, value: &Value) -> Sentence {
     match value {
         Value::Null => said.say("null"),
-        Value::Bool(is_true) => said.say(if *is_true {
-            "a boolean (true)"
-        } else {
-            "a boolean (false)"
-        }),
+        Value::Bool(true) => said.say("a boolean (true)"),
+        Value::Bool(false) => said.say("a boolean (false)"),
         Value::Number(number) => match number.as_i64() {
             Some(number) => say_number(said.say("an integer ("), number).say(")"),
             None => said.say("a number"),

@@ -15,13 +15,6 @@ pub enum Level {
 }
 
 impl Level {
-    /// Whether it is an error.
-    fn is_error(self) -> bool
-        ensures { result ≡ is_error self }
-    {
-        matches!(self, Level::Error)
-    }
-
     /// Its word.
     pub(crate) fn word(self) -> &'static str
         ensures { result.now ≡ word_of self }
@@ -84,7 +77,7 @@ impl<'a> Entry<'a> {
     pub(crate) fn is_error(&self) -> bool
         ensures { result ≡ is_error self.now.level }
     {
-        self.level.is_error()
+        matches!(self.level, Level::Error)
     }
 
     /// Whether the other says the same of the same place.

@@ -8,7 +8,6 @@ ghost use Rattle.tmpl_syntax.specs.View.{set_view};
 ghost use Rattle.tmpl_report.specs.Errors.{AreErrors, AreOfData, AreOfFile, AreOfFiles, AreOfReason, AreOfSources, IsOfReason};
 ghost use Rattle.tmpl_report.specs.Errors.{error_of, errors_in, errors_of, left_in};
 ghost use Rattle.tmpl_report.specs.Finding.{Finding, has_error};
-ghost use Rattle.tmpl_report.specs.Level.{is_error};
 ghost use Rattle.tmpl_report.specs.Rendered.{IsValued};
 ghost use Rattle.tmpl_report.specs.Safe.{IsSafe};
 ghost use Rattle.tmpl_report.specs.Told.{told};
@@ -88,7 +87,7 @@ impl<'a> Findings<'a> {
     pub fn has_errors(&self) -> bool
         ensures { result ≡ has_error self.now }
     {
-        has_error(self.entries.as_slice())
+        self.entries.iter().any(|entry| entry.is_error())
     }
 
     /// Whether there are none, and no warnings either.
@@ -128,7 +127,7 @@ impl<'a> Findings<'a> {
             then self.old else self.old ++ entry.entry ∷ [])) }
         ensures more { OnOk result (HasMore self.old self.new) }
     {
-        if has_same(self.entries.as_slice(), &entry) {
+        if self.entries.iter().any(|other| other.is_same(&entry)) {
             return Ok(());
         }
         self.add(entry)?;
@@ -160,8 +159,10 @@ impl<'a> Findings<'a> {
         ensures { OnOk result (self.new ≡ self.old ++ map (error_of file.now) problems.now) }
     {
         for problem in problems {
-            let entry = problem_entry(self.alloc, file, problem)?;
-            self.add(entry)?;
+            let refused = &problem.refused;
+            let place = (refused.line, refused.column);
+            let text = problem_text(self.alloc, problem)?;
+            self.add(Entry::error(file, place, rule_of(refused.kind), text))?;
         }
         Ok(())
     }
@@ -217,6 +218,12 @@ impl<'a> Findings<'a> {
         self.warn(file, (1, 1), rule, text)
     }
 
+    /// The message about a template of this name.
+    fn about(&self, before: &str, name: &[u8], after: &str) -> Result<String> {
+        let said = Sentence::new(self.alloc).say(before).say("\"");
+        say_name(said, name).say("\"").say(after).finish()
+    }
+
     /// Adds the calls in a file of templates that no file has.
     fn add_calls(
         &mut self,
@@ -237,7 +244,7 @@ impl<'a> Findings<'a> {
                 continue;
             }
             found = found.saturating_add(1);
-            let text = about(self.alloc, "no file defines the template ", call.name, "")?;
+            let text = self.about("no file defines the template ", call.name, "")?;
             self.warn(file, (call.line, call.column), NO_SUCH_TEMPLATE, text)?;
         }
         self.warn_of_more(file, NO_SUCH_TEMPLATE, left)
@@ -255,18 +262,9 @@ impl<'a> Findings<'a> {
     {
         for definition in defined {
             if !templates.called.contains(definition.name) && definition.name != asked.as_bytes() {
-                let text = about(
-                    self.alloc,
-                    "the template ",
-                    definition.name,
-                    " is never called",
-                )?;
-                self.warn(
-                    file,
-                    (definition.line, definition.column),
-                    NEVER_CALLED,
-                    text,
-                )?;
+                let text = self.about("the template ", definition.name, " is never called")?;
+                let place = (definition.line, definition.column);
+                self.warn(file, place, NEVER_CALLED, text)?;
             }
         }
         Ok(())
@@ -293,15 +291,11 @@ impl<'a> Findings<'a> {
         let (Some(asked), Some(first)) = (question.name, question.first) else {
             return Ok(());
         };
-        if templates.defined.contains(asked.as_bytes()) {
+        let name = asked.as_bytes();
+        if templates.defined.contains(name) {
             return Ok(());
         }
-        let text = about(
-            self.alloc,
-            "no file defines the template ",
-            asked.as_bytes(),
-            " of --name",
-        )?;
+        let text = self.about("no file defines the template ", name, " of --name")?;
         self.warn(first, (1, 1), NO_SUCH_TEMPLATE, text)
     }
 
@@ -317,7 +311,7 @@ impl<'a> Findings<'a> {
             × AreOfFiles (set_view set.old) files.now (set_view set.new) errors
             × (errors_in self.new ≡ errors_in self.old ++ errors)) }
     {
-        let surveys = survey_all(self.alloc, hash, files)?;
+        let surveys = surveyed(self.alloc, hash, files)?;
         let templates = templates_in(self.alloc, hash, files, surveys.as_slice())?;
         self.add_each(hash, question.name, files, surveys, &templates, set)?;
         self.add_asked(question, &templates)?;
@@ -397,8 +391,9 @@ impl<'a> Findings<'a> {
         if self.has_errors() {
             return Ok(());
         }
-        let entry = unseen_entry(self.alloc, question.first.unwrap_or(""))?;
-        self.add(entry)?;
+        let text = String::from_str(self.alloc, "may fail: it is not seen why")?;
+        let file = question.first.unwrap_or("");
+        self.add(Entry::error(file, (1, 1), MAY_FAIL, text))?;
         Ok(())
     }
 
@@ -468,12 +463,8 @@ impl<'a> Findings<'a> {
         ensures { OnOk result (errors_in self.new ≡ errors_in self.old) }
     {
         for warning in warnings.into_iter() {
-            self.warn(
-                file,
-                (warning.line, warning.column),
-                KEY_GIVEN_TWICE,
-                warning.text,
-            )?;
+            let place = (warning.line, warning.column);
+            self.warn(file, place, KEY_GIVEN_TWICE, warning.text)?;
         }
         Ok(())
     }
@@ -508,62 +499,10 @@ impl<'a> Findings<'a> {
             Some(found) => ((found.line, found.column), found.text.as_str()),
             None => ((1, 1), ""),
         };
-        let entry = data_entry(self.alloc, file, reason, place, detail)?;
-        self.add(entry)?;
+        let text = reason_text(self.alloc, reason.words(), detail)?;
+        self.add(Entry::error(file, place, data_rule_of(reason), text))?;
         Ok(())
     }
-}
-
-/// Something wrong in data.
-fn data_entry<'a>(
-    alloc: Global,
-    file: &'a str,
-    reason: DataReason,
-    place: (u64, u64),
-    detail: &str,
-) -> Result<Entry<'a>>
-    ensures { IfOk result (λ entry. IsOfReason file.now reason entry) }
-{
-    let text = reason_text(alloc, reason.words(), detail)?;
-    Ok(Entry::error(file, place, data_rule_of(reason), text))
-}
-
-/// Something wrong in a file.
-fn problem_entry<'a>(alloc: Global, file: &'a str, problem: &Problem) -> Result<Entry<'a>>
-    ensures { IfOk result (λ entry. entry ≡ error_of file.now problem.now) }
-{
-    let refused = &problem.refused;
-    let place = (refused.line, refused.column);
-    let text = problem_text(alloc, problem)?;
-    Ok(Entry::error(file, place, rule_of(refused.kind), text))
-}
-
-/// The message about a template of this name.
-fn about(alloc: Global, before: &str, name: &[u8], after: &str) -> Result<String> {
-    let said = Sentence::new(alloc).say(before).say("\"");
-    say_name(said, name).say("\"").say(after).finish()
-}
-
-/// Whether one of these is an error.
-fn has_error(entries: &[Entry<'_>]) -> bool
-    ensures { result ≡ has_error entries.now }
-{
-    entries.iter().any(|entry| entry.is_error())
-}
-
-/// Whether one of these says the same of the same place.
-fn has_same(entries: &[Entry<'_>], entry: &Entry<'_>) -> bool
-    ensures { result ≡ list_any (λ other. is_same other entry.now) entries.now }
-{
-    entries.iter().any(|other| other.is_same(entry))
-}
-
-/// That it is not seen that nothing is wrong.
-fn unseen_entry<'a>(alloc: Global, file: &'a str) -> Result<Entry<'a>>
-    ensures { IfOk result (λ entry. is_error entry.level ≡ true) }
-{
-    let text = String::from_str(alloc, "may fail: it is not seen why")?;
-    Ok(Entry::error(file, (1, 1), MAY_FAIL, text))
 }
 
 /// What is found in template files, in the order of the files, in the schema, and then in data: errors, and what is
@@ -619,11 +558,7 @@ fn findings_in<'a>(
 }
 
 /// The surveys of files.
-fn survey_all<'f>(
-    alloc: Global,
-    hash: NameHash,
-    files: &'f [Source<'_>],
-) -> Result<Vec<Survey<'f>>> {
+fn surveyed<'f>(alloc: Global, hash: NameHash, files: &'f [Source<'_>]) -> Result<Vec<Survey<'f>>> {
     let mut surveys = Vec::new(alloc);
     for file in files {
         surveys.push(survey_file(alloc, hash, file.bytes.as_slice())?)?;

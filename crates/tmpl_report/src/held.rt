@@ -1,7 +1,7 @@
 //! Whether the data conforms to the schema, and where it does not.
-ghost use Rattle.std.specs.Prelude.{◌≡◌, IfOk, OnOk, false, true};
+ghost use Rattle.std.specs.Prelude.{◌≡◌, OnOk, false, true};
 ghost use Rattle.tmpl_report.specs.Finding.{has_error};
-ghost use Rattle.tmpl_report.specs.Rendered.{IsHeldTo, IsInside, IsUnfit, Mentions};
+ghost use Rattle.tmpl_report.specs.Rendered.{IsHeldTo, IsInside, Mentions};
 ghost use Rattle.tmpl_report.specs.computed.Entries.{AddsUnfit};
 
 use crate::Result;
@@ -83,8 +83,9 @@ fn add_violations<'a>(
     ensures { OnOk result (AddsUnfit findings.old findings.new) }
 {
     for violation in violations {
-        let entry = violation_entry(findings.alloc, schema, data, violation)?;
-        findings.add(entry)?;
+        let place = position_of(data.bytes.as_slice(), violation.path.as_slice());
+        let text = violation_text(findings.alloc, schema, violation)?;
+        findings.add(Entry::error(data.name, place, DOES_NOT_CONFORM, text))?;
     }
     Ok(())
 }
@@ -100,20 +101,6 @@ fn add_unheld<'a>(findings: &mut Findings<'a>, data: &Source<'a>) -> Result<()>
     let text = "does not conform: it is not seen that it does";
     let text = String::from_str(findings.alloc, text)?;
     findings.add(Entry::error(data.name, (1, 1), DOES_NOT_CONFORM, text))
-}
-
-/// A place at which the data does not conform to the schema.
-fn violation_entry<'a>(
-    alloc: Global,
-    schema: &Source<'a>,
-    data: &Source<'a>,
-    violation: &Violation,
-) -> Result<Entry<'a>>
-    ensures { IfOk result (λ entry. IsUnfit entry) }
-{
-    let place = position_of(data.bytes.as_slice(), violation.path.as_slice());
-    let text = violation_text(alloc, schema, violation)?;
-    Ok(Entry::error(data.name, place, DOES_NOT_CONFORM, text))
 }
 
 /// The message about a place at which the data does not conform to the schema.

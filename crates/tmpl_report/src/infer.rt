@@ -77,11 +77,8 @@ fn add_sample<'a>(
     if !findings.add_data(file)? {
         return Ok(());
     }
-    match read_document(alloc, file.bytes.as_slice())? {
-        Some(value) => {
-            samples.push(value)?;
-            Ok(())
-        }
-        None => Ok(()),
+    if let Some(value) = read_document(alloc, file.bytes.as_slice())? {
+        samples.push(value)?;
     }
+    Ok(())
 }

@@ -27,7 +27,6 @@ pub use laws::always_fails;
 pub use reasons::{Reason, Why, position_of, reasons_of};
 pub use samples::{Failure, failure_refutes, failures_of};
 pub use source::{Question, Source, Sources};
-use std::alloc::AllocError;
 
 /// What a function gives whose only error is that memory ran out, unless it names another.
-type Result<T, E = AllocError> = std::result::Result<T, E>;
+type Result<T, E = std::alloc::AllocError> = std::result::Result<T, E>;

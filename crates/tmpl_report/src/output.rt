@@ -2,7 +2,6 @@
 ghost use Rattle.std.specs.Prelude.{OnOk};
 ghost use Rattle.tmpl_report.specs.computed.Entries.{AddsBroken, AddsOfOutput};
 
-mod data;
 mod message;
 mod render;
 mod schema;
@@ -11,11 +10,13 @@ mod strings;
 
 use crate::Result;
 use crate::findings::Findings;
-use crate::output::data::add_over_data;
+use crate::output::message::broken_entry;
+use crate::output::render::Writer;
 use crate::output::schema::add_over_schema;
 use crate::output::spread::add_file;
 use crate::source::{Question, Source, Sources, Task};
-use std::alloc::Global;
+use std::alloc::{AllocError, Global};
+use tmpl_engine::{Data, DataFault, Renderer};
 use tmpl_formats::Format;
 use tmpl_json_schema::read_document;
 use tmpl_syntax::{NameHash, Set};
@@ -69,24 +70,36 @@ fn add_written<'a>(
     };
     match (&sources.data, &sources.schema) {
         (Some(data), _) => add_over_data(&task, findings, data, &format),
-        (None, Some(schema)) => add_of_schema(&task, findings, schema, &format),
+        (None, Some(schema)) => match read_document(alloc, schema.bytes.as_slice())? {
+            Some(document) => add_over_schema(&task, findings, &document, &format),
+            None => Ok(()),
+        },
         (None, None) => Ok(()),
     }
 }
 
-/// Adds where the output is not of the format over data of the schema that are found.
-fn add_of_schema<'t, 'a>(
+/// Adds where the output over the data ceases to be of the format.
+fn add_over_data<'t, 'a>(
     task: &Task<'t, 'a>,
     findings: &mut Findings<'a>,
-    schema: &Source<'a>,
+    data: &Source<'a>,
     format: &'t Format,
 ) -> Result<()>
     ensures { OnOk result (AddsBroken findings.old findings.new) }
 {
-    match read_document(task.alloc, schema.bytes.as_slice())? {
-        Some(document) => add_over_schema(task, findings, &document, format),
-        None => Ok(()),
-    }
+    let tree = match Data::from_json(task.alloc, data.bytes.as_slice()) {
+        Ok(tree) => tree,
+        Err(DataFault::OutOfMemory) => return Err(AllocError),
+        Err(_) => return Ok(()),
+    };
+    let renderer = Renderer::new(task.alloc, task.set)?;
+    let writer = Writer::new(task, &renderer, format);
+    let Some(broken) = writer.broken_over(&tree)? else {
+        return Ok(());
+    };
+    let found = writer.found(&tree, &broken, "writes no ", None)?;
+    let entry = broken_entry(task, found);
+    findings.add(entry)
 }
 
 /// The templates of the files; none where one is not accepted, or is missing.

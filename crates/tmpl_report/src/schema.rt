@@ -9,7 +9,7 @@ ghost use Rattle.tmpl_report.specs.computed.Entries.{HasMore};
 use crate::Result;
 use crate::entry::Entry;
 use crate::findings::Findings;
-use crate::reasons::{Reason, Why, position_of, reasons_of};
+use crate::reasons::{Reason, Why, below, position_of, reasons_of};
 use crate::rule::{MAY_FAIL, SCHEMA_NOT_UNDERSTOOD, SCHEMA_WITHOUT_VALUES};
 use crate::samples::{Failure, failures_of};
 use crate::source::{Question, Source, Sources, Task};
@@ -93,7 +93,7 @@ fn add_judged<'a>(
     }
 }
 
-/// Warns of what is suspicious in a schema.
+/// Warns of what is suspicious in a schema: a part to which no value conforms, if one is found, and what is not used.
 fn warn_of_schema<'a>(
     findings: &mut Findings<'a>,
     schema: &Source<'a>,
@@ -101,32 +101,9 @@ fn warn_of_schema<'a>(
 ) -> Result<()>
     ensures { OnOk result (errors_in findings.new ≡ errors_in findings.old) }
 {
-    warn_without_values(findings, schema, document)?;
-    warn_of_keywords(findings, schema, document)
-}
-
-/// Warns of a part of a schema to which no value conforms, if one is found.
-fn warn_without_values<'a>(
-    findings: &mut Findings<'a>,
-    schema: &Source<'a>,
-    document: &Value,
-) -> Result<()>
-    ensures { OnOk result (errors_in findings.new ≡ errors_in findings.old) }
-{
-    match part_without_values(findings.alloc, document)? {
-        Some(part) => findings.warn_of_part(schema, SCHEMA_WITHOUT_VALUES, &part),
-        None => Ok(()),
+    if let Some(part) = part_without_values(findings.alloc, document)? {
+        findings.warn_of_part(schema, SCHEMA_WITHOUT_VALUES, &part)?;
     }
-}
-
-/// Warns of what of a schema is not used.
-fn warn_of_keywords<'a>(
-    findings: &mut Findings<'a>,
-    schema: &Source<'a>,
-    document: &Value,
-) -> Result<()>
-    ensures { OnOk result (errors_in findings.new ≡ errors_in findings.old) }
-{
     for warning in warnings_of(findings.alloc, document)?.as_slice() {
         findings.warn_of_part(schema, SCHEMA_NOT_UNDERSTOOD, warning)?;
     }
@@ -181,7 +158,7 @@ fn add_doubts<'a>(
     };
     for (index, doubt) in doubts.iter().enumerate() {
         let reason = reasons.get(index).and_then(Option::as_ref);
-        let text = cause_text(alloc, &doubt.cause, schema.name, reason)?;
+        let text = text_of(alloc, &doubt.cause, schema.name, reason)?;
         let mut entry = doubt_entry(task, doubt, text);
         if let Some(Some(failure)) = failures.get(index) {
             entry.note = Some(failure_text(alloc, failure, mode.is_some())?);
@@ -221,27 +198,16 @@ fn names_of(alloc: Global, given: &[&str]) -> Result<Vec<Bytes>>
 
 /// The message about a part of a schema: after these words the way to it, and what is wrong there.
 pub(crate) fn refused_text(alloc: Global, words: &str, refused: &Refused) -> Result<String> {
-    let mut said = Sentence::new(alloc).say(words);
+    let mut pointer = String::new(alloc);
     for part in refused.path.as_slice().iter().rev() {
-        said = say_part(said.say("/"), part.as_str());
+        pointer = below(alloc, pointer.as_str(), part.as_str())?;
     }
-    if !refused.path.is_empty() {
-        said = said.say(": ");
-    }
-    said.say(refused.text.as_str()).finish()
-}
-
-/// Says a part of a JSON Pointer.
-fn say_part(said: Sentence, part: &str) -> Sentence {
-    let mut said = said;
-    for letter in part.chars() {
-        said = match letter {
-            '~' => said.say("~0"),
-            '/' => said.say("~1"),
-            _ => said.say(letter.encode_utf8(&mut [0; 4])),
-        };
-    }
-    said
+    Sentence::new(alloc)
+        .say(words)
+        .say(pointer.as_str())
+        .say(if pointer.is_empty() { "" } else { ": " })
+        .say(refused.text.as_str())
+        .finish()
 }
 
 /// Where a template may fail.
@@ -253,12 +219,7 @@ fn doubt_entry<'a>(task: &Task<'_, 'a>, doubt: &Doubt, text: String) -> Entry<'a
 }
 
 /// The message about a cause, for which there may be a reason in the schema of this name.
-fn cause_text(
-    alloc: Global,
-    cause: &Cause,
-    schema: &str,
-    reason: Option<&Reason>,
-) -> Result<String> {
+fn text_of(alloc: Global, cause: &Cause, schema: &str, reason: Option<&Reason>) -> Result<String> {
     let said = Sentence::new(alloc).say("may fail: ");
     let said = match cause {
         Cause::Absent(name) => {

@@ -68,6 +68,7 @@ pub(crate) fn add_values<'a>(
 }
 
 /// Adds the fault of the run over the data, if nothing else is wrong.
+#[tactic(auto, using(crate::proofs::ValueLemmas::runs))]
 fn add_rendered<'a>(
     task: &Task<'_, 'a>,
     findings: &mut Findings<'a>,
@@ -81,17 +82,6 @@ fn add_rendered<'a>(
     if task.sources.is_short || findings.has_errors() {
         return Ok(());
     }
-    add_run(task, findings, data)
-}
-
-/// The same, whatever else is wrong.
-#[tactic(auto, using(crate::proofs::ValueLemmas::runs))]
-fn add_run<'a>(task: &Task<'_, 'a>, findings: &mut Findings<'a>, data: &Source<'a>) -> Result<()>
-    ensures whole { OnOk result (has_error findings.new ≡ false
-        → IsRenderedOver task.now.question.now task.now.first.now «data».now (set_view task.now.set.now) findings.new) }
-    ensures told { OnOk result (AddsFaults task.now.question.now task.now.first.now «data».now (set_view task.now.set.now)
-        findings.old findings.new) }
-{
     match Data::from_json(task.alloc, data.bytes.as_slice()) {
         Ok(tree) => add_run_over(task, findings, data, &tree),
         Err(DataFault::OutOfMemory) => Err(AllocError),
@@ -174,7 +164,7 @@ fn add_fault<'a>(
 /// What is known of a fault over these data.
 fn detail_over(task: &Task<'_, '_>, data: &[u8], fault: &RunFault<'_>) -> Result<Detail> {
     match Value::from_slice(task.alloc, data) {
-        Ok(value) => detail_of(task.alloc, task.set, task.name(), &value, fault),
+        Ok(value) => detail_of(task, &value, fault),
         Err(error) if error.is_memory() => Err(AllocError),
         Err(_) => Ok(Detail {
             text: String::new(task.alloc),

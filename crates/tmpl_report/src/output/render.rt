@@ -6,6 +6,7 @@ ghost use Rattle.tmpl_report.specs.computed.Written.{IsBroken, IsOutput, output_
 
 use crate::Result;
 use crate::output::spread::{Origin, SpreadSet};
+use crate::rendered::{DEPTH, MOST_RENDERED, STEPS};
 use crate::samples::Nowhere;
 use crate::source::Task;
 use std::alloc::AllocError;
@@ -14,19 +15,11 @@ use tmpl_engine::{
 };
 use tmpl_formats::{Format, Mistake, first_mistake};
 
-/// The limits of a render.
-const STEPS: u64 = 1_000_000;
-
-const DEPTH: u32 = 500;
-
 /// The most steps of a run that is not long.
 const FEW_STEPS: u64 = 20_000;
 
 /// How often steps are halved: more than there are steps.
 const MOST_HALVES: usize = 64;
-
-/// The most bytes of output that are looked at.
-pub(super) const MOST_OUTPUT: usize = 16_000_000;
 
 /// Takes output up to a number of bytes, and keeps it.
 #[derive(Drop)]
@@ -41,7 +34,7 @@ impl Sink for Kept {
     ghost so_far = { λ s. record { bytes = Some s.bytes.items; failures = s.failures } };
 
     fn put(&mut self, bytes: &[u8]) -> Result<usize, SinkFault> {
-        let is_full = bytes.len() > MOST_OUTPUT.saturating_sub(self.bytes.len());
+        let is_full = bytes.len() > MOST_RENDERED.saturating_sub(self.bytes.len());
         if is_full || self.bytes.extend_from_slice(bytes).is_err() {
             self.failures += 1;
             return Err(SinkFault);
@@ -51,7 +44,7 @@ impl Sink for Kept {
 }
 
 /// The template that is rendered, and the format that its output has to be of.
-#[derive(Clone, Copy)]
+#[derive(Drop)]
 pub(super) struct Writer<'w, 't, 'a> {
     pub(super) task: Task<'t, 'a>,
     pub(super) renderer: &'w Renderer,
@@ -69,11 +62,7 @@ pub(super) struct Broken {
 
 impl<'w, 't, 'a> Writer<'w, 't, 'a> {
     /// That of a task, whose set is compiled.
-    pub(super) fn new(
-        task: &Task<'t, 'a>,
-        renderer: &'w Renderer,
-        format: &'t Format,
-    ) -> Writer<'w, 't, 'a> {
+    pub(super) fn new(task: &Task<'t, 'a>, renderer: &'w Renderer, format: &'t Format) -> Self {
         Writer {
             task: *task,
             renderer,
@@ -129,7 +118,7 @@ impl<'w, 't, 'a> Writer<'w, 't, 'a> {
     /// Whether a run over data takes long.
     pub(super) fn is_long(&self, tree: &Data) -> Result<bool> {
         Ok(
-            self.cut_at(self.renderer, tree, FEW_STEPS, MOST_OUTPUT)?
+            self.cut_at(self.renderer, tree, FEW_STEPS, MOST_RENDERED)?
                 .is_some(),
         )
     }

@@ -11,12 +11,14 @@ const COMMENT: &[u8] = b"{{/*\n*/}}";
 
 const TRIMMING: &[u8] = b"{{- /*\n*/ -}}";
 
+/// For each node its line here, and how many bytes of the file as it was given stand before it.
+type Lines = Vec<(u64, usize)>;
+
 /// A file whose nodes are on lines of their own.
 #[derive(Drop)]
 struct Spread<'a> {
     name: &'a str,
-    /// For each node its line here, and how many bytes of the file as it was given stand before it.
-    lines: Vec<(u64, usize)>,
+    lines: Lines,
 }
 
 /// Templates whose nodes are on lines of their own.
@@ -27,7 +29,7 @@ pub(crate) struct SpreadSet<'a> {
 }
 
 /// A node of a file as it was given.
-#[derive(Clone, Copy, PartialEq)]
+#[derive(Drop, PartialEq)]
 pub(crate) struct Origin<'a> {
     pub(crate) file: &'a str,
     /// How many bytes of the file stand before it.
@@ -36,19 +38,14 @@ pub(crate) struct Origin<'a> {
 
 impl<'a> SpreadSet<'a> {
     /// The templates of files that make a set; none where a file is too long with its comments.
-    pub(crate) fn of(
-        alloc: Global,
-        set: &Set,
-        files: &[Source<'a>],
-    ) -> Result<Option<SpreadSet<'a>>> {
+    pub(crate) fn of(alloc: Global, set: &Set, files: &[Source<'a>]) -> Result<Option<Self>> {
         let mut all = SpreadSet {
             set: Set::new(alloc),
             files: Vec::new(alloc),
         };
         for file in files {
             let starts = starts_in(alloc, set, file.name)?;
-            let mut lines = Vec::new(alloc);
-            let bytes = spread_file(alloc, file.bytes.as_slice(), starts.as_slice(), &mut lines)?;
+            let (bytes, lines) = spread_file(alloc, file.bytes.as_slice(), starts.as_slice())?;
             if !add_file(alloc, &mut all.set, file.name, bytes.as_slice())? {
                 return Ok(None);
             }
@@ -111,13 +108,9 @@ fn add_starts(nodes: &[Node], starts: &mut Vec<usize>) -> Result<()> {
 }
 
 /// The bytes of a file with a comment at each of these places, and the lines of what begins there.
-fn spread_file(
-    alloc: Global,
-    bytes: &[u8],
-    starts: &[usize],
-    lines: &mut Vec<(u64, usize)>,
-) -> Result<Vec<u8>> {
+fn spread_file(alloc: Global, bytes: &[u8], starts: &[usize]) -> Result<(Vec<u8>, Lines)> {
     let mut made = Vec::new(alloc);
+    let mut lines = Vec::new(alloc);
     let mut from: usize = 0;
     let mut line: u64 = 1;
     for start in starts {
@@ -130,7 +123,7 @@ fn spread_file(
         from = *start;
     }
     made.extend_from_slice(bytes.get(from..).unwrap_or(&[]))?;
-    Ok(made)
+    Ok((made, lines))
 }
 
 /// The comment before what begins so.

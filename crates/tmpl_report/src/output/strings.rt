@@ -1,6 +1,7 @@
 //! Values with other strings in them, which a format may not take.
 
 use crate::Result;
+use crate::samples::is_counted_out;
 use serde_json::{Map, Value, put};
 use std::alloc::Global;
 
@@ -42,13 +43,8 @@ pub(super) fn with_string(
     number: &mut usize,
 ) -> Result<Value> {
     match value {
-        Value::String(_) => {
-            let is_meant = *number == 1;
-            *number = number.saturating_sub(1);
-            if is_meant {
-                return Ok(Value::String(String::from_str(alloc, text)?));
-            }
-            value.clone()
+        Value::String(_) if is_counted_out(number) => {
+            Ok(Value::String(String::from_str(alloc, text)?))
         }
         Value::Array(items) => {
             let mut all: Vec<Value> = Vec::new(alloc);

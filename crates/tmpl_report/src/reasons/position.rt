@@ -122,17 +122,12 @@ fn inner_part(bytes: &[u8], start: usize, name: &str) -> Option<Part>
 fn part_at(bytes: &[u8], start: usize, is_member: bool) -> Part
     ensures { result.start ≡ start }
 {
-    if !is_member {
-        return Part {
-            start,
-            value: start,
-        };
+    let mut value = start;
+    if is_member {
+        let colon = after_space(bytes, after_value(bytes, start));
+        value = after_space(bytes, colon.saturating_add(1));
     }
-    let colon = after_space(bytes, after_value(bytes, start));
-    Part {
-        start,
-        value: after_space(bytes, colon.saturating_add(1)),
-    }
+    Part { start, value }
 }
 
 /// Whether the member that begins here has this key, or the item of this index this name.

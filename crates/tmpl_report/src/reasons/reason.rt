@@ -4,12 +4,12 @@ ghost use Rattle.std.specs.List.{AllZip};
 ghost use Rattle.tmpl_report.specs.Reason.{IsReason, IsTold, absence, few, gap_by, gap_of, kind};
 
 use crate::Result;
-use crate::reasons::origin::{Document, Lost, Origin, below, lets_all};
+use crate::reasons::origin::{Document, Lost, Origin, below};
 use crate::reasons::position::line_of;
 use crate::reasons::walk::asked_of;
 use serde_json::Value;
 use std::alloc::{AllocError, Global};
-use tmpl_json_schema::{Kinds, least_items, requires_key};
+use tmpl_json_schema::{Kinds, has_content, is_every_kind, least_items, requires_key};
 use tmpl_schema::{Cause, Doubt};
 use tmpl_syntax::Set;
 
@@ -140,7 +140,7 @@ fn why_absent(document: Document<'_>, place: &str, name: &str) -> Found
 /// that is not known.
 fn lets_kind(schema: &Value, kinds: Kinds, word: &str) -> Option<bool> {
     match word {
-        "any value" => Some(lets_all(schema, kinds)),
+        "any value" => Some(!has_content(schema) && is_every_kind(kinds)),
         "null" => Some(kinds.null),
         "a boolean" => Some(kinds.truth),
         "a number" => Some(kinds.number),

@@ -55,9 +55,9 @@ struct Walk<'w> {
 }
 
 /// A copy of where a value comes from, where that is known.
-fn copy(document: Document<'_>, origin: &Option<Origin>) -> Result<Origin, Lost> {
+fn copy(origin: &Option<Origin>) -> Result<Origin, Lost> {
     match origin {
-        Some(origin) => Ok(origin.copy(document.alloc)?),
+        Some(origin) => Ok(origin.clone()?),
         None => Err(Lost::Untold),
     }
 }
@@ -146,7 +146,7 @@ impl<'w> Walk<'w> {
             return Err(Lost::Untold);
         }
         match self.scope.iter().rev().find(|source| source.name == name) {
-            Some(source) => copy(self.document, &source.origin),
+            Some(source) => copy(&source.origin),
             None => Err(Lost::Untold),
         }
     }
@@ -214,11 +214,8 @@ impl<'w> Walk<'w> {
     #[cycle(value)]
     fn operand(&self, levels: usize, operand: &Operand) -> Result<Origin, Lost> {
         match operand {
-            Operand::Dot => copy(self.document, &self.dot),
-            Operand::Fields(fields) => self.chain(
-                copy(self.document, &self.dot)?,
-                fields.as_slice(),
-            ),
+            Operand::Dot => copy(&self.dot),
+            Operand::Fields(fields) => self.chain(copy(&self.dot)?, fields.as_slice()),
             Operand::Variable { name, fields } => {
                 self.chain(self.variable(name.as_slice())?, fields.as_slice())
             }
@@ -325,7 +322,7 @@ impl<'w> Walk<'w> {
     #[cycle(look)]
     fn look_operand(&mut self, levels: usize, sought: Sought<'_>, operand: &Operand) -> Result<()> {
         let (start, fields) = match operand {
-            Operand::Fields(fields) => (copy(self.document, &self.dot), fields),
+            Operand::Fields(fields) => (copy(&self.dot), fields),
             Operand::Variable { name, fields } => (self.variable(name.as_slice()), fields),
             Operand::Group { commands, fields } => {
                 self.look_into(levels, sought, commands.as_slice())?;
@@ -338,16 +335,11 @@ impl<'w> Walk<'w> {
 
     /// Looks for what the alarms speak of in the pipeline of an action that begins after this many bytes, which may be
     /// that of a range. Gives where its value comes from.
-    fn value(
-        &mut self,
-        start: usize,
-        pipeline: &Pipeline,
-        is_range: bool,
-    ) -> Result<Option<Origin>> {
+    fn value(&mut self, at: usize, pipeline: &Pipeline, is_range: bool) -> Result<Option<Origin>> {
         let commands = pipeline.commands.as_slice();
         let doubts = self.doubts;
         for (index, doubt) in doubts.iter().enumerate() {
-            if doubt.start != start || doubt.template.as_slice() != self.name {
+            if doubt.start != at || doubt.template.as_slice() != self.name {
                 continue;
             }
             if is_range && matches!(doubt.cause, Cause::Range(_)) {
@@ -366,7 +358,7 @@ impl<'w> Walk<'w> {
             self.is_crowded = true;
             return Ok(());
         }
-        let origin = if_told(copy(self.document, origin))?;
+        let origin = origin.clone()?;
         Ok(self.scope.push(Source { name, origin })?)
     }
 
@@ -426,12 +418,12 @@ impl<'w> Walk<'w> {
         let value = self.value(start, &control.header.pipeline, is_range)?;
         let inside = match &value {
             Some(origin) if is_range => if_told(self.document.elements(origin))?,
-            _ => if_told(copy(self.document, &value))?,
+            _ => value.clone()?,
         };
         self.bind(&control.header.binding, &inside)?;
         let dot = match control.control {
-            Control::If => if_told(copy(self.document, &self.dot))?,
-            _ => if_told(copy(self.document, &inside))?,
+            Control::If => self.dot.clone()?,
+            _ => inside.clone()?,
         };
         let before = mem::replace(&mut self.dot, dot);
         self.nodes(levels, control.body.as_slice())?;
@@ -493,7 +485,7 @@ fn walked<'w>(
         doubts,
         asked,
         handed: Vec::new(alloc),
-        dot: if_told(copy(document, &dot.origin))?,
+        dot: dot.origin.clone()?,
         scope: Vec::new(alloc),
         is_crowded: assigned.len() >= MOST_VARIABLES,
         assigned,
@@ -543,11 +535,8 @@ pub(crate) fn asked_of<'w>(
     doubts: &'w [Doubt],
 ) -> Result<Vec<Option<Origin>>> {
     let alloc = document.alloc;
-    let mut dots: Vec<Source<'w>> = Vec::new(alloc);
-    dots.push(Source {
-        name,
-        origin: if_told(Origin::whole(alloc))?,
-    })?;
+    let origin = if_told(Origin::whole(alloc))?;
+    let mut dots = vec![in alloc; Source { name, origin }]?;
     let mut asked = Vec::new(alloc);
     for rounds in 0..MOST_ROUNDS {
         if !round(document, set, &mut dots)? {

@@ -40,7 +40,7 @@ pub(crate) const MOST_TEXT: usize = 1_000_000;
 const MOST_SHOWN: usize = 500;
 
 /// What is asked: a template of a set, the document that its data conform to, and what may be a fault.
-#[derive(Clone, Copy)]
+#[derive(Drop)]
 pub(crate) struct Question<'q> {
     pub(crate) alloc: Global,
     pub(crate) renderer: &'q Renderer,
@@ -70,13 +70,6 @@ pub(crate) struct Nowhere {
 }
 
 impl Nowhere {
-    /// One that takes as much as a render writes.
-    pub(crate) fn new() -> Nowhere
-        ensures { result.failures ≡ 0 }
-    {
-        Nowhere::of(MOST_TEXT)
-    }
-
     /// One that takes as many bytes.
     pub(crate) fn of(room: usize) -> Nowhere
         ensures { result.failures ≡ 0 }
@@ -118,12 +111,10 @@ fn is_caused(cause: &Cause, kind: &RunFaultKind<'_>, stops: &[Bytes]) -> bool
     ensures not_allowed { result ≡ true → ¬ (MayEnd stops.now (cause_of kind.now)) }
 {
     match (cause, kind) {
-        (Cause::Absent(name), RunFaultKind::NoEntry(field) | RunFaultKind::NoField(field)) => {
-            name.as_slice() == *field
-        }
-        (Cause::NoFields(name, _), RunFaultKind::NoEntry(field) | RunFaultKind::NoField(field)) => {
-            name.as_slice() == *field
-        }
+        (
+            Cause::Absent(name) | Cause::NoFields(name, _),
+            RunFaultKind::NoEntry(field) | RunFaultKind::NoField(field),
+        ) => name.as_slice() == *field,
         (
             Cause::Arguments(func) | Cause::FewItems(func, _) | Cause::NotFollowed(func),
             RunFaultKind::Call(other, _),
@@ -190,7 +181,7 @@ impl Question<'_> {
             fault_over (rules_by self.now.mode) (templates_in self.now.renderer.now) self.now.name.now
             (value_of tree.now) ≡ Some (fault_seen fault))) }
     {
-        match self.render(tree, &mut Nowhere::new()) {
+        match self.render(tree, &mut Nowhere::of(MOST_TEXT)) {
             Err(RenderError::Fault(fault)) => Ok(Some(fault)),
             Err(RenderError::OutOfMemory) => Err(AllocError),
             _ => Ok(None),
@@ -247,27 +238,10 @@ impl Question<'_> {
         requires conforms { IsOfSchema (view self.now.root.now) (value_of tree.now) }
         ensures { IfOk result (λ found. IfSome found (IsRight (asked_in self.now) doubt.now)) }
     {
-        match self.fault(tree)? {
-            Some(fault) => self.failure_by(doubt, &fault, text),
-            None => Ok(None),
-        }
-    }
-
-    /// The failure of an alarm for the data of this text, if it speaks of the fault over them.
-    fn failure_by(
-        &self,
-        doubt: &Doubt,
-        fault: &RunFault<'_>,
-        text: String,
-    ) -> Result<Option<Failure>>
-        ensures { IfOk result (λ found. IfSome found (λ failure. (failure.data ≡ text)
-            × IsDoubted doubt.now (fault_seen fault.now)
-            × ¬ (MayEnd self.now.stops.now (fault_seen fault.now).cause)
-            × (failure.is_strict ≡ is_no_entry (fault_seen fault.now).cause)
-            × (IsUtf8 (cause_text (fault_seen fault.now).cause)
-            → string_bytes failure.said ≡ cause_text (fault_seen fault.now).cause))) }
-    {
-        if !is_doubted(doubt, fault, self.stops) {
+        let Some(fault) = self.fault(tree)? else {
+            return Ok(None);
+        };
+        if !is_doubted(doubt, &fault, self.stops) {
             return Ok(None);
         }
         Ok(Some(Failure {

@@ -86,9 +86,10 @@ struct Trial {
     progress: u64,
 }
 
-/// For each alarm a value for which it is right, and how much may still be done.
+/// A search: for each alarm a value for which it is right, and how much may still be done.
 #[derive(Drop)]
-struct Hunt {
+struct Hunt<'h, 'q> {
+    question: &'h Question<'q>,
     cases: Vec<Option<Value>>,
     missing: usize,
     budget: Budget,
@@ -106,18 +107,15 @@ impl Question<'_> {
         if data.len() > MOST_BYTES {
             return Ok(NO_RUN);
         }
-        match Data::from_json(self.alloc, data.as_bytes()) {
-            Ok(tree) => self.outcome_over(&tree, data.len(), only),
-            Err(DataFault::OutOfMemory) => Err(AllocError),
-            Err(_) => Ok(NO_RUN),
-        }
-    }
-
-    fn outcome_over(&self, tree: &Data, size: usize, only: Option<usize>) -> Result<Outcome> {
-        let mut out = Nowhere::new();
-        let ended = self.render(tree, &mut out);
+        let tree = match Data::from_json(self.alloc, data.as_bytes()) {
+            Ok(tree) => tree,
+            Err(DataFault::OutOfMemory) => return Err(AllocError),
+            Err(_) => return Ok(NO_RUN),
+        };
+        let mut out = Nowhere::of(MOST_TEXT);
+        let ended = self.render(&tree, &mut out);
         let text = MOST_TEXT.saturating_sub(out.room);
-        let bytes = size.saturating_add(text);
+        let bytes = data.len().saturating_add(text);
         match ended {
             Err(RenderError::Fault(fault)) => {
                 let is_own = fault.template == self.name;
@@ -148,79 +146,6 @@ impl Question<'_> {
         })
     }
 
-    /// Makes the value of these choices, and renders the template over it.
-    fn try_flips(&self, hunt: &mut Hunt, is_lean: bool, flips: &[Flip]) -> Result<Trial> {
-        let mut draw = Draw::new(self.alloc, self.root, is_lean, flips);
-        let drawn = draw.whole()?;
-        hunt.work = hunt.work.saturating_sub(draw.parts);
-        let Draw { counts, .. } = draw;
-        let Some(value) = drawn else {
-            hunt.budget = hunt.budget.after(NO_RUN);
-            return Ok(Trial {
-                counts,
-                progress: 0,
-            });
-        };
-        let outcome = self.outcome(&value, None)?;
-        hunt.budget = hunt.budget.after(outcome);
-        if let Some(doubt) = outcome.shown {
-            hunt.keep(doubt, value);
-        }
-        Ok(Trial {
-            counts,
-            progress: outcome.progress,
-        })
-    }
-
-    /// Tries each other choice at each point beside these, and adds to them the one with which the template comes
-    /// farther, if there is one.
-    fn sweep(&self, hunt: &mut Hunt, is_lean: bool, flips: &mut Vec<Flip>) -> Result<bool> {
-        let Trial { counts, progress } = self.try_flips(hunt, is_lean, flips.as_slice())?;
-        let mut best = progress;
-        let mut better: Option<Flip> = None;
-        for (point, count) in counts.iter().enumerate() {
-            for away in 1..*count {
-                if hunt.is_done() {
-                    return Ok(false);
-                }
-                let flip = Flip { point, away };
-                flips.push(flip)?;
-                let Trial { progress, .. } = self.try_flips(hunt, is_lean, flips.as_slice())?;
-                let _ = flips.pop();
-                if progress > best {
-                    best = progress;
-                    better = Some(flip);
-                }
-            }
-        }
-        if let Some(flip) = better {
-            flips.push(flip)?;
-        }
-        Ok(better.is_some())
-    }
-
-    /// Goes from value to value over which the template comes farther, and looks around each; at last two steps.
-    fn climb(&self, hunt: &mut Hunt, is_lean: bool) -> Result<()> {
-        let mut flips: Vec<Flip> = Vec::new(self.alloc);
-        for _ in 0..MOST_ROUNDS {
-            if !self.sweep(hunt, is_lean, &mut flips)? {
-                break;
-            }
-        }
-        let Trial { counts, .. } = self.try_flips(hunt, is_lean, flips.as_slice())?;
-        for (point, count) in counts.iter().enumerate() {
-            for away in 1..*count {
-                if hunt.is_done() {
-                    return Ok(());
-                }
-                flips.push(Flip { point, away })?;
-                self.sweep(hunt, is_lean, &mut flips)?;
-                let _ = flips.pop();
-            }
-        }
-        Ok(())
-    }
-
     /// The value of an alarm, made smaller as long as the template fails in the same way.
     fn smaller(&self, index: usize, value: Value, budget: &mut Budget) -> Result<Value> {
         let mut smallest = value;
@@ -245,7 +170,74 @@ impl Question<'_> {
     }
 }
 
-impl Hunt {
+impl Hunt<'_, '_> {
+    /// Makes the value of these choices, and renders the template over it.
+    fn try_flips(&mut self, is_lean: bool, flips: &[Flip]) -> Result<Trial> {
+        let mut draw = Draw::new(self.question.alloc, self.question.root, is_lean, flips);
+        let drawn = draw.whole()?;
+        self.work = self.work.saturating_sub(draw.parts);
+        let Draw { counts, .. } = draw;
+        let outcome = match &drawn {
+            Some(value) => self.question.outcome(value, None)?,
+            None => NO_RUN,
+        };
+        self.budget = self.budget.after(outcome);
+        if let (Some(value), Some(doubt)) = (drawn, outcome.shown) {
+            self.keep(doubt, value);
+        }
+        let progress = outcome.progress;
+        Ok(Trial { counts, progress })
+    }
+
+    /// Tries each other choice at each point beside these, and adds to them the one with which the template comes
+    /// farther, if there is one.
+    fn sweep(&mut self, is_lean: bool, flips: &mut Vec<Flip>) -> Result<bool> {
+        let Trial { counts, progress } = self.try_flips(is_lean, flips.as_slice())?;
+        let mut best = progress;
+        let mut better: Option<Flip> = None;
+        for (point, count) in counts.iter().enumerate() {
+            for away in 1..*count {
+                if self.is_done() {
+                    return Ok(false);
+                }
+                let flip = Flip { point, away };
+                flips.push(flip)?;
+                let Trial { progress, .. } = self.try_flips(is_lean, flips.as_slice())?;
+                let _ = flips.pop();
+                if progress > best {
+                    best = progress;
+                    better = Some(flip);
+                }
+            }
+        }
+        if let Some(flip) = better {
+            flips.push(flip)?;
+        }
+        Ok(better.is_some())
+    }
+
+    /// Goes from value to value over which the template comes farther, and looks around each; at last two steps.
+    fn climb(&mut self, is_lean: bool) -> Result<()> {
+        let mut flips: Vec<Flip> = Vec::new(self.question.alloc);
+        for _ in 0..MOST_ROUNDS {
+            if !self.sweep(is_lean, &mut flips)? {
+                break;
+            }
+        }
+        let Trial { counts, .. } = self.try_flips(is_lean, flips.as_slice())?;
+        for (point, count) in counts.iter().enumerate() {
+            for away in 1..*count {
+                if self.is_done() {
+                    return Ok(());
+                }
+                flips.push(Flip { point, away })?;
+                self.sweep(is_lean, &mut flips)?;
+                let _ = flips.pop();
+            }
+        }
+        Ok(())
+    }
+
     /// Whether each alarm has a value, or enough was done.
     fn is_done(&self) -> bool {
         self.missing == 0 || self.work == 0 || self.budget.is_spent()
@@ -262,33 +254,27 @@ impl Hunt {
     }
 }
 
-/// What is searched for at first: nothing was found.
-fn new_hunt(question: &Question<'_>) -> Result<Hunt> {
-    let mut cases = Vec::new(question.alloc);
-    for _ in question.doubts {
-        cases.push(None)?;
-    }
-    let mut doubts = question.doubts.iter();
-    let missing = doubts
-        .filter(|doubt| !matches!(doubt.cause, Cause::Variables))
-        .count();
-    Ok(Hunt {
-        cases,
-        missing,
+/// Searches for a value for each alarm, first from little data, then from much, and makes it smaller.
+fn values_found(question: &Question<'_>) -> Result<Vec<Option<Value>>> {
+    let mut hunt = Hunt {
+        question,
+        cases: Vec::new(question.alloc),
+        missing: 0,
         budget: Budget {
             renders: MOST_TRIES,
             bytes: MOST_SEARCHED,
         },
         work: MOST_WORK,
-    })
-}
-
-/// Searches for a value for each alarm, first from little data, then from much, and makes it smaller.
-fn values_found(question: &Question<'_>) -> Result<Vec<Option<Value>>> {
-    let mut hunt = new_hunt(question)?;
-    question.climb(&mut hunt, true)?;
+    };
+    for doubt in question.doubts {
+        hunt.cases.push(None)?;
+        if !matches!(doubt.cause, Cause::Variables) {
+            hunt.missing = hunt.missing.saturating_add(1);
+        }
+    }
+    hunt.climb(true)?;
     hunt.budget.renders = MOST_TRIES;
-    question.climb(&mut hunt, false)?;
+    hunt.climb(false)?;
     let Hunt { cases, .. } = hunt;
     let mut values = Vec::new(question.alloc);
     let mut budget = Budget {

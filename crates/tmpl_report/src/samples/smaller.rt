@@ -32,7 +32,7 @@ pub(crate) fn without(alloc: Global, value: &Value, number: &mut usize) -> Resul
 }
 
 /// Counts a part. Gives whether it is the one that is left out.
-fn is_counted_out(number: &mut usize) -> bool {
+pub(crate) fn is_counted_out(number: &mut usize) -> bool {
     let is_last = *number == 1;
     *number = number.saturating_sub(1);
     is_last
