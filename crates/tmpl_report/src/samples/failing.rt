@@ -12,7 +12,7 @@ ghost use Rattle.tmpl_engine.specs.Reason.{cause_text};
 ghost use Rattle.tmpl_engine.specs.View.{templates_in};
 ghost use Rattle.tmpl_engine.specs.declared.error.RenderError.{RenderError};
 ghost use Rattle.tmpl_schema.specs.Safe.{MayEnd};
-ghost use Rattle.tmpl_report.specs.Failing.{AreRight, IsDoubted, IsRight, Speaks, fault_over, is_no_entry, rules_by};
+ghost use Rattle.tmpl_report.specs.Failing.{AreRight, IsDoubted, IsRight, Speaks, fault_over, rules_by};
 ghost use Rattle.tmpl_json_schema.specs.Document.{IsOfSchema};
 ghost use Rattle.tmpl_report.specs.computed.Asked.{asked_in};
 
