@@ -96,26 +96,18 @@ fn fails_at_first(wanted: Wanted<'_>, found: &[Found<'_>]) -> bool {
 /// Whether a command is seen not to fail: one that asks for the length of what has one, or for a field that is none of
 /// these faults.
 fn is_fine(wanted: Wanted<'_>, found: &Found<'_>) -> bool {
-    let [given] = found.operands.as_slice() else {
+    let [Given::Chain { value, .. }] = found.operands.as_slice() else {
         return false;
     };
-    match (wanted, value_in(given)) {
-        (Wanted::Call(Func::Len), Some(value)) => {
+    match wanted {
+        Wanted::Call(Func::Len) => {
             matches!(value, Value::String(_) | Value::Array(_) | Value::Object(_))
         }
-        (Wanted::Field(_), Some(value)) => value.is_object(),
-        (Wanted::Entry(name), Some(value)) => {
+        Wanted::Field(_) => value.is_object(),
+        Wanted::Entry(name) => {
             !value.is_object() || from_utf8(name).is_ok_and(|name| value.get(name).is_some())
         }
         _ => false,
-    }
-}
-
-/// The value of a chain of fields.
-fn value_in<'w>(given: &Given<'w>) -> Option<&'w Value> {
-    match given {
-        Given::Chain { value, .. } => Some(*value),
-        _ => None,
     }
 }
 

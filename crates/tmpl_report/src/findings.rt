@@ -127,7 +127,7 @@ impl<'a> Findings<'a> {
             then self.old else self.old ++ entry.entry ∷ [])) }
         ensures more { OnOk result (HasMore self.old self.new) }
     {
-        if self.entries.iter().any(|other| other.is_same(&entry)) {
+        if has_same(self.entries.as_slice(), &entry) {
             return Ok(());
         }
         self.add(entry)?;
@@ -151,7 +151,8 @@ impl<'a> Findings<'a> {
             return Ok(());
         }
         let text = left_text(self.alloc, left)?;
-        self.add(Entry::error(file, (1, 1), TOO_MANY_ERRORS, text))
+        self.add(Entry::error(file, (1, 1), TOO_MANY_ERRORS, text))?;
+        Ok(())
     }
 
     /// Adds errors of a file.
@@ -503,6 +504,13 @@ impl<'a> Findings<'a> {
         self.add(Entry::error(file, place, data_rule_of(reason), text))?;
         Ok(())
     }
+}
+
+/// Whether one of these says the same of the same place.
+fn has_same(entries: &[Entry<'_>], entry: &Entry<'_>) -> bool
+    ensures { result ≡ list_any (λ other. is_same other entry.now) entries.now }
+{
+    entries.iter().any(|other| other.is_same(entry))
 }
 
 /// What is found in template files, in the order of the files, in the schema, and then in data: errors, and what is

@@ -1,12 +1,9 @@
-use Rattle.std.proofs.Common.{◌∙◌, ap, refl, subst, sym}
-use Rattle.tmpl_problems.specs.Line.{reason_with}
-use Rattle.tmpl_report.specs.Errors.{IsOfReason}
+use Rattle.tmpl_report.proofs.ErrorLemmas.{of-reason}
 use Rattle.tmpl_report.proofs.findings.Findings.add_data_problem.Goals as goal
 
 pub returns : goal.returns
 returns c = (
   c.error.result,
-  subst (IsOfReason c.args.file.now c.args.reason) (sym c.error.ensures)
-      (refl, refl, c.data_rule_of.ensures, (c.detail.now, c.in_ok-text.ensures ∙ ap (λ w. reason_with w c.detail.now) c.words.ensures)),
+  of-reason c.args.file.now _ c.args.reason c.error.result _ _ _ _ c.error.ensures c.data_rule_of.ensures c.in_ok-text.ensures c.words.ensures,
   c.in_ok-add.ensures,
 )
