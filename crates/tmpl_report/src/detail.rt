@@ -93,16 +93,16 @@ fn fails_at_first(wanted: Wanted<'_>, found: &[Found<'_>]) -> bool {
     is_exact && first.is_sure && rest.iter().all(|other| other.start == first.start)
 }
 
-/// Whether a command is seen not to fail: one that asks for the length of what has one, or for a field that is none of
-/// these faults.
+/// Whether a command is seen not to fail: its value has a length, or what is asked for a field is none of these faults.
 fn is_fine(wanted: Wanted<'_>, found: &Found<'_>) -> bool {
-    let [Given::Chain { value, .. }] = found.operands.as_slice() else {
+    let [given] = found.operands.as_slice() else {
+        return false;
+    };
+    let Given::Chain { value, .. } = given else {
         return false;
     };
     match wanted {
-        Wanted::Call(Func::Len) => {
-            matches!(value, Value::String(_) | Value::Array(_) | Value::Object(_))
-        }
+        Wanted::Call(Func::Len) => value.is_string() || value.is_array() || value.is_object(),
         Wanted::Field(_) => value.is_object(),
         Wanted::Entry(name) => {
             !value.is_object() || from_utf8(name).is_ok_and(|name| value.get(name).is_some())
