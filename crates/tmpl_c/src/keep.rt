@@ -24,7 +24,7 @@ use tmpl_engine::{Engine, NameHash};
 use tmpl_values::Data;
 
 /// The message about an offer.
-#[derive(Clone, Copy, Debug)]
+#[derive(Clone, Copy)]
 pub(crate) struct Said {
     pub(crate) status: u8,
     pub(crate) line: Extent,

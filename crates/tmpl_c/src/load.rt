@@ -22,7 +22,7 @@ use tmpl_values::{Data, DataFault};
 const DATA: &str = "data";
 
 /// Why nothing is run.
-#[derive(Clone, Copy, Debug)]
+#[derive(Clone, Copy)]
 pub(crate) enum Halt<'a> {
     /// The name of a file is no text.
     NotText,

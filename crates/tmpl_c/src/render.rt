@@ -34,14 +34,14 @@ static FULL: &[u8] = b"tmpl: write failed\n";
 static REFUSED: &[u8] = b"tmpl: out of memory\n";
 
 /// How much output a buffer holds, and how much there is.
-#[derive(Clone, Copy, Debug)]
+#[derive(Clone, Copy)]
 pub(crate) struct Extent {
     pub(crate) taken: usize,
     pub(crate) needed: usize,
 }
 
 /// What a render came to.
-#[derive(Clone, Copy, Debug)]
+#[derive(Clone, Copy)]
 pub(crate) struct Filled {
     pub(crate) status: u8,
     pub(crate) text: Extent,

@@ -108,8 +108,5 @@ fn is_base(value: &Value) -> bool
 fn is_fragment(reference: &str) -> bool
     ensures { result ≡ is_some (fragment_of reference.now) }
 {
-    match reference.as_bytes() {
-        [b'#', ..] => true,
-        _ => false,
-    }
+    matches!(reference.as_bytes(), [b'#', ..])
 }

@@ -5,20 +5,12 @@ use serde_json::{Map, Value};
 
 /// Whether it is decided, as far as this many levels show, if a value conforms to each of these schemas.
 pub(crate) fn are_decided(root: &Value, levels: usize, schemas: &Value, value: &Value) -> bool {
-    let reader = Decider {
-        root,
-        draft: draft_seen(root),
-    };
-    reader.are_decided(levels, schemas, value)
+    Decider::of(root).are_decided(levels, schemas, value)
 }
 
 /// Whether it is decided, as far as this many levels show, if a value conforms to a schema.
 pub(crate) fn is_decided(root: &Value, levels: usize, schema: &Value, value: &Value) -> bool {
-    let reader = Decider {
-        root,
-        draft: draft_seen(root),
-    };
-    reader.is_decided(levels, schema, value)
+    Decider::of(root).is_decided(levels, schema, value)
 }
 
 /// A document, and its draft.
@@ -36,7 +28,12 @@ fn is_inexact(value: &Value) -> bool {
     }
 }
 
-impl Decider<'_> {
+impl<'d> Decider<'d> {
+    fn of(root: &'d Value) -> Self {
+        let draft = draft_seen(root);
+        Decider { root, draft }
+    }
+
     /// Whether the draft is draft-07 or a later one.
     fn is_since_07(self) -> bool {
         self.draft.is_since_2019() || matches!(self.draft, Draft::Draft07)

@@ -22,20 +22,14 @@ impl Draft {
     pub(crate) fn is_since_2019(self) -> bool
         ensures { result ≡ is_since_2019 self }
     {
-        match self {
-            Draft::Draft2019 | Draft::Draft2020 => true,
-            Draft::Draft04 | Draft::Draft06 | Draft::Draft07 => false,
-        }
+        matches!(self, Draft::Draft2019 | Draft::Draft2020)
     }
 
     /// Whether it has `const`.
     pub(crate) fn has_const(self) -> bool
         ensures { result ≡ has_const self }
     {
-        match self {
-            Draft::Draft04 => false,
-            Draft::Draft06 | Draft::Draft07 | Draft::Draft2019 | Draft::Draft2020 => true,
-        }
+        !matches!(self, Draft::Draft04)
     }
 }
 

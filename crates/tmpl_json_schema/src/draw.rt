@@ -1,5 +1,6 @@
 //! Values of a schema: one for each way to choose, where there are several.
 
+use crate::Result;
 use crate::conform::{LEVELS, conforms, is_excluded, is_property, referred, text_of_format};
 use crate::fields::{has_content, least_in, requires_key};
 use crate::pattern::{REPEATS, text_of_pattern};
@@ -56,6 +57,9 @@ pub struct Draw<'d> {
     references: usize,
 }
 
+/// A value, if one is made.
+type Drawn = Result<Option<Value>>;
+
 impl<'d> Draw<'d> {
     pub fn new(alloc: Global, root: &'d Value, is_lean: bool, flips: &'d [Flip]) -> Draw<'d> {
         Draw {
@@ -76,7 +80,7 @@ impl<'d> Draw<'d> {
     }
 
     /// Chooses one of this many, which is usually this.
-    fn choose(&mut self, count: usize, usual: usize) -> Result<usize, AllocError> {
+    fn choose(&mut self, count: usize, usual: usize) -> Result<usize> {
         let point = self.counts.len();
         self.counts.push(count)?;
         for flip in self.flips {
@@ -88,14 +92,14 @@ impl<'d> Draw<'d> {
     }
 
     /// Chooses whether what may be left out is there.
-    fn keeps(&mut self) -> Result<bool, AllocError> {
+    fn keeps(&mut self) -> Result<bool> {
         let is_left = self.is_lean || self.references > FEW_REFERENCES;
         Ok(self.choose(2, usize::from(is_left))? == 0)
     }
 
     /// A value of a schema.
     #[cycle(draw)]
-    fn of_schema(&mut self, levels: usize, schema: &Value) -> Result<Option<Value>, AllocError> {
+    fn of_schema(&mut self, levels: usize, schema: &Value) -> Drawn {
         self.parts = self.parts.saturating_add(1);
         if levels == 0 || self.parts > MOST_PARTS {
             return Ok(None);
@@ -110,7 +114,7 @@ impl<'d> Draw<'d> {
 
     /// A value of a schema that is an object.
     #[cycle(draw)]
-    fn of_object(&mut self, levels: usize, schema: &Value) -> Result<Option<Value>, AllocError> {
+    fn of_object(&mut self, levels: usize, schema: &Value) -> Drawn {
         if let Some(reference) = schema.get("$ref") {
             return self.of_reference(levels, reference);
         }
@@ -141,12 +145,7 @@ impl<'d> Draw<'d> {
 
     /// A value of a schema with `allOf`: a map with the members of one of each part, or one of the first part.
     #[cycle(draw)]
-    fn of_parts(
-        &mut self,
-        levels: usize,
-        schema: &Value,
-        parts: &[Value],
-    ) -> Result<Option<Value>, AllocError> {
+    fn of_parts(&mut self, levels: usize, schema: &Value, parts: &[Value]) -> Drawn {
         let mut whole = if has_content(schema) {
             self.of_types(levels, schema)?
         } else {
@@ -161,11 +160,7 @@ impl<'d> Draw<'d> {
 
     /// A value of what a `$ref` points to.
     #[cycle(draw)]
-    fn of_reference(
-        &mut self,
-        levels: usize,
-        reference: &Value,
-    ) -> Result<Option<Value>, AllocError> {
+    fn of_reference(&mut self, levels: usize, reference: &Value) -> Drawn {
         let root = self.root;
         let Some(schema) = referred(root, reference) else {
             return Ok(None);
@@ -181,7 +176,7 @@ impl<'d> Draw<'d> {
 
     /// A value of one of the types of a schema.
     #[cycle(draw)]
-    fn of_types(&mut self, levels: usize, schema: &Value) -> Result<Option<Value>, AllocError> {
+    fn of_types(&mut self, levels: usize, schema: &Value) -> Drawn {
         match schema.get("type") {
             Some(Value::String(name)) => self.of_type(levels, schema, name.as_str()),
             Some(Value::Array(names)) => {
@@ -201,12 +196,7 @@ impl<'d> Draw<'d> {
 
     /// A value of the type of this name.
     #[cycle(draw)]
-    fn of_type(
-        &mut self,
-        levels: usize,
-        schema: &Value,
-        name: &str,
-    ) -> Result<Option<Value>, AllocError> {
+    fn of_type(&mut self, levels: usize, schema: &Value, name: &str) -> Drawn {
         match name {
             "null" => Ok(Some(Value::Null)),
             "boolean" => Ok(Some(Value::Bool(self.choose(2, 0)? == 0))),
@@ -218,7 +208,7 @@ impl<'d> Draw<'d> {
     }
 
     /// A value of any kind.
-    fn of_any(&mut self) -> Result<Option<Value>, AllocError> {
+    fn of_any(&mut self) -> Drawn {
         let alloc = self.alloc;
         Ok(Some(match self.choose(6, 0)? {
             0 => Value::try_from_str(alloc, "a")?,
@@ -231,7 +221,7 @@ impl<'d> Draw<'d> {
     }
 
     /// One of these values, of which those count that are of the schema.
-    fn one_of(&mut self, schema: &Value, values: Vec<Value>) -> Result<Option<Value>, AllocError> {
+    fn one_of(&mut self, schema: &Value, values: Vec<Value>) -> Drawn {
         let root = self.root;
         let mut fit = values;
         fit.retain(|value| conforms(root, LEVELS, schema, value));
@@ -246,7 +236,7 @@ impl<'d> Draw<'d> {
     }
 
     /// A number: a small one, or one at a bound.
-    fn of_number(&mut self, schema: &Value) -> Result<Option<Value>, AllocError> {
+    fn of_number(&mut self, schema: &Value) -> Drawn {
         let mut values: Vec<Value> = Vec::new(self.alloc);
         for number in [1_i64, 0, -1] {
             values.push(Value::from(number))?;
@@ -260,7 +250,7 @@ impl<'d> Draw<'d> {
     }
 
     /// A text: a short one, or one of the least length, of a format or of a pattern.
-    fn of_text(&mut self, schema: &Value) -> Result<Option<Value>, AllocError> {
+    fn of_text(&mut self, schema: &Value) -> Drawn {
         let mut values: Vec<Value> = Vec::new(self.alloc);
         for text in ["a", "", least_text(schema), format_text(schema)] {
             values.push(Value::try_from_str(self.alloc, text)?)?;
@@ -271,7 +261,7 @@ impl<'d> Draw<'d> {
     }
 
     /// Adds texts of the pattern of a schema, if it has one that is read.
-    fn add_of_pattern(&self, schema: &Value, values: &mut Vec<Value>) -> Result<(), AllocError> {
+    fn add_of_pattern(&self, schema: &Value, values: &mut Vec<Value>) -> Result<()> {
         let Some(Value::String(pattern)) = schema.get("pattern") else {
             return Ok(());
         };
@@ -286,7 +276,7 @@ impl<'d> Draw<'d> {
 
     /// A list: usually of one item, or of as many as there have to be.
     #[cycle(draw)]
-    fn of_list(&mut self, levels: usize, schema: &Value) -> Result<Option<Value>, AllocError> {
+    fn of_list(&mut self, levels: usize, schema: &Value) -> Drawn {
         let least = least_in(schema);
         let is_empty = self.is_lean || self.references > FEW_REFERENCES;
         let length = match self.choose(3, usize::from(is_empty))? {
@@ -310,7 +300,7 @@ impl<'d> Draw<'d> {
 
     /// A map.
     #[cycle(draw)]
-    fn of_map(&mut self, levels: usize, schema: &Value) -> Result<Option<Value>, AllocError> {
+    fn of_map(&mut self, levels: usize, schema: &Value) -> Drawn {
         let mut members: Map<String, Value> = Map::new(self.alloc);
         if let Some(Value::Object(properties)) = schema.get("properties") {
             for (name, property) in properties.iter() {
@@ -346,7 +336,7 @@ impl<'d> Draw<'d> {
         levels: usize,
         patterns: &Map<String, Value>,
         members: &mut Map<String, Value>,
-    ) -> Result<(), AllocError> {
+    ) -> Result<()> {
         for (pattern, schema) in patterns.iter() {
             let Some(text) = text_of_pattern(pattern.as_str(), 0) else {
                 continue;
@@ -362,7 +352,7 @@ impl<'d> Draw<'d> {
     }
 
     /// Chooses whether a map has a member that is no property: usually where it has no properties.
-    fn has_others(&mut self, schema: &Value) -> Result<bool, AllocError> {
+    fn has_others(&mut self, schema: &Value) -> Result<bool> {
         if is_property(schema, OTHER_KEY) || requires_key(schema, OTHER_KEY) {
             return Ok(false);
         }
@@ -383,7 +373,7 @@ impl<'d> Draw<'d> {
         schema: &Value,
         name: &str,
         members: &mut Map<String, Value>,
-    ) -> Result<(), AllocError> {
+    ) -> Result<()> {
         let value = match schema.get("additionalProperties") {
             Some(others) => self.of_schema(levels, others)?,
             None => self.of_any()?,
@@ -396,11 +386,7 @@ impl<'d> Draw<'d> {
 }
 
 /// Two maps as one, or else the first value that there is.
-fn merged(
-    alloc: Global,
-    first: Option<Value>,
-    second: Option<Value>,
-) -> Result<Option<Value>, AllocError> {
+fn merged(alloc: Global, first: Option<Value>, second: Option<Value>) -> Drawn {
     match (first, second) {
         (Some(Value::Object(members)), Some(Value::Object(more))) => {
             let mut members = members;

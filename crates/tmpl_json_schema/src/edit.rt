@@ -14,10 +14,7 @@ pub(crate) fn is_near(keyword: &str, name: &str) -> bool
 fn is_long(name: &[u8]) -> bool
     ensures { result ≡ is_long name.now }
 {
-    match name {
-        [_, _, _, _, ..] => true,
-        _ => false,
-    }
+    matches!(name, [_, _, _, _, ..])
 }
 
 /// Whether it begins with `$`.
@@ -56,10 +53,7 @@ fn is_one_edit(one: &[u8], other: &[u8]) -> bool
 fn is_one_byte(bytes: &[u8]) -> bool
     ensures { result ≡ is_one_byte bytes.now }
 {
-    match bytes {
-        [_] => true,
-        _ => false,
-    }
+    matches!(bytes, [_])
 }
 
 /// Whether two texts that begin with these bytes differ in the order of the first two alone.

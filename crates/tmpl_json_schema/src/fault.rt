@@ -2,6 +2,7 @@
 ghost use Rattle.std.specs.Prelude.{◌≡◌};
 ghost use Rattle.tmpl_json_schema.specs.declared.fault.SchemaFault.TheVariants as fault;
 
+use crate::Result;
 use std::alloc::{AllocError, AllocFailed, Global};
 use tmpl_schema::Shape;
 
@@ -39,30 +40,29 @@ impl<T: Drop> From<AllocFailed<T>> for SchemaFault {
     }
 }
 
-/// A refusal of what is looked at.
-pub(crate) fn refusal(alloc: Global, text: &str) -> SchemaFault {
-    match String::from_str(alloc, text) {
+/// A refusal by a message, if that could be made.
+pub(crate) fn refusal_by(alloc: Global, text: Result<String>) -> SchemaFault {
+    match text {
         Ok(text) => SchemaFault::Refused(Refused {
             path: Vec::new(alloc),
             text,
         }),
         Err(_) => SchemaFault::OutOfMemory,
     }
+}
+
+/// A refusal of what is looked at.
+pub(crate) fn refusal(alloc: Global, text: &str) -> SchemaFault {
+    refusal_by(alloc, String::from_str(alloc, text))
 }
 
 /// A refusal that names what it is about.
 pub(crate) fn refusal_of(alloc: Global, before: &str, name: &str, after: &str) -> SchemaFault {
-    match sentence(alloc, before, name, after) {
-        Ok(text) => SchemaFault::Refused(Refused {
-            path: Vec::new(alloc),
-            text,
-        }),
-        Err(_) => SchemaFault::OutOfMemory,
-    }
+    refusal_by(alloc, sentence(alloc, before, name, after))
 }
 
 /// A text of three parts, of which the second stands in quotes.
-fn sentence(alloc: Global, before: &str, name: &str, after: &str) -> Result<String, AllocError> {
+fn sentence(alloc: Global, before: &str, name: &str, after: &str) -> Result<String> {
     let mut text = String::from_str(alloc, before)?;
     text.push('"')?;
     text.push_str(name)?;
@@ -73,20 +73,14 @@ fn sentence(alloc: Global, before: &str, name: &str, after: &str) -> Result<Stri
 
 /// The fault, found under this key.
 pub(crate) fn under(alloc: Global, fault: SchemaFault, key: &str) -> SchemaFault {
-    match fault {
-        SchemaFault::Refused(refused) => {
-            let Refused { path, text } = refused;
-            let mut path = path;
-            let key = match String::from_str(alloc, key) {
-                Ok(key) => key,
-                Err(_) => return SchemaFault::OutOfMemory,
-            };
-            match path.push(key) {
-                Ok(()) => SchemaFault::Refused(Refused { path, text }),
-                Err(_) => SchemaFault::OutOfMemory,
-            }
-        }
-        SchemaFault::OutOfMemory => SchemaFault::OutOfMemory,
+    let (SchemaFault::Refused(refused), Ok(key)) = (fault, String::from_str(alloc, key)) else {
+        return SchemaFault::OutOfMemory;
+    };
+    let Refused { path, text } = refused;
+    let mut path = path;
+    match path.push(key) {
+        Ok(()) => SchemaFault::Refused(Refused { path, text }),
+        Err(_) => SchemaFault::OutOfMemory,
     }
 }
 

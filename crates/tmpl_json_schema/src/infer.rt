@@ -11,6 +11,7 @@ ghost use Rattle.tmpl_json_schema.specs.Inferred.{Conforms, HasInferred, IsInfer
 ghost use Rattle.tmpl_json_schema.specs.computed.Inferred.{seen, maps_seen, items_of_list, EachValue, IsOnlyOrList, is_text};
 ghost use Rattle.tmpl_json_schema.specs.computed.Inferred.{Fits, room, values_among, AddsItems, AreTold, AddsOthers, AddsProperties};
 
+use crate::Result;
 use crate::conform::count_keys;
 use serde_json::{Map, Value, put};
 use std::alloc::{AllocError, Global};
@@ -68,7 +69,7 @@ fn has_text(values: &[Value], text: &str) -> bool
 }
 
 /// The types of samples: one, or a list of them, each once.
-fn types_of(alloc: Global, samples: &[&Value]) -> Result<Value, AllocError>
+fn types_of(alloc: Global, samples: &[&Value]) -> Result<Value>
     ensures conform { IfOk result
         (λ types. EachValue (λ v. IsOfType v (view types)) (seen samples.now)) }
     ensures nests { IfOk result (λ types. depth (view types) ≤ 1) }
@@ -98,10 +99,7 @@ fn one_or_list(mut values: Vec<Value>) -> Value
 }
 
 /// The maps among samples.
-fn maps_in<'s>(
-    alloc: Global,
-    samples: &[&'s Value],
-) -> Result<Vec<&'s Map<String, Value>>, AllocError>
+fn maps_in<'s>(alloc: Global, samples: &[&'s Value]) -> Result<Vec<&'s Map<String, Value>>>
     ensures maps { IfOk result (λ maps. maps_seen maps.items ≡ filter_map as_object (seen samples.now)) }
     ensures instances { OnOk result (EachValue IsInstance (seen samples.now)) }
 {
@@ -116,7 +114,7 @@ fn maps_in<'s>(
 }
 
 /// The items of the lists among samples.
-fn items_in<'s>(alloc: Global, samples: &[&'s Value]) -> Result<Vec<&'s Value>, AllocError>
+fn items_in<'s>(alloc: Global, samples: &[&'s Value]) -> Result<Vec<&'s Value>>
     ensures { IfOk result (λ items. seen items.items ≡ flat_map items_of_list (seen samples.now)) }
 {
     let mut all = Vec::new(alloc);
@@ -129,7 +127,7 @@ fn items_in<'s>(alloc: Global, samples: &[&'s Value]) -> Result<Vec<&'s Value>, 
 }
 
 /// Adds these items.
-fn add_items_of<'s>(items: &'s [Value], all: &mut Vec<&'s Value>) -> Result<(), AllocError>
+fn add_items_of<'s>(items: &'s [Value], all: &mut Vec<&'s Value>) -> Result<()>
     ensures { OnOk result (seen all.new.items ≡ seen all.old.items ++ map view items.now) }
 {
     for item in items {
@@ -143,7 +141,7 @@ fn values_of<'s>(
     alloc: Global,
     maps: &[&'s Map<String, Value>],
     key: &str,
-) -> Result<Vec<&'s Value>, AllocError>
+) -> Result<Vec<&'s Value>>
     ensures { IfOk result
         (λ values. seen values.items ≡ filter_map (get_member key.now) (maps_seen maps.now)) }
 {
@@ -157,10 +155,7 @@ fn values_of<'s>(
 }
 
 /// Adds the values of a map.
-fn add_values_of<'s>(
-    map: &'s Map<String, Value>,
-    all: &mut Vec<&'s Value>,
-) -> Result<(), AllocError>
+fn add_values_of<'s>(map: &'s Map<String, Value>, all: &mut Vec<&'s Value>) -> Result<()>
     ensures { OnOk result (seen all.new.items ≡ seen all.old.items ++ values_among (members_view map.now.entries)) }
 {
     for (_, value) in map.iter() {
@@ -170,10 +165,7 @@ fn add_values_of<'s>(
 }
 
 /// The values of maps.
-fn values_in<'s>(
-    alloc: Global,
-    maps: &[&'s Map<String, Value>],
-) -> Result<Vec<&'s Value>, AllocError>
+fn values_in<'s>(alloc: Global, maps: &[&'s Map<String, Value>]) -> Result<Vec<&'s Value>>
     ensures { IfOk result (λ values. seen values.items ≡ flat_map values_among (maps_seen maps.now)) }
 {
     let mut all = Vec::new(alloc);
@@ -184,11 +176,7 @@ fn values_in<'s>(
 }
 
 /// The paths that go on from a key, each without that key.
-fn paths_under<'p>(
-    alloc: Global,
-    paths: &[&'p str],
-    key: &str,
-) -> Result<Vec<&'p str>, AllocError> {
+fn paths_under<'p>(alloc: Global, paths: &[&'p str], key: &str) -> Result<Vec<&'p str>> {
     let mut under = Vec::new(alloc);
     for path in paths {
         if let Some(rest) = path_after(*path, key) {
@@ -210,11 +198,7 @@ fn path_after<'p>(path: &'p str, key: &str) -> Option<&'p str> {
 
 /// Whether the keys of maps are data: where one of the paths ends there, or where they are many or each map has others,
 /// and their values are of one type.
-fn are_keys_data(
-    alloc: Global,
-    paths: &[&str],
-    maps: &[&Map<String, Value>],
-) -> Result<bool, AllocError> {
+fn are_keys_data(alloc: Global, paths: &[&str], maps: &[&Map<String, Value>]) -> Result<bool> {
     if paths.iter().any(|path| path.is_empty() || *path == ".") {
         return Ok(true);
     }
@@ -237,7 +221,7 @@ fn add_names<'s>(
     map: &'s Map<String, Value>,
     names: &mut BTreeSet<&'s str>,
     count: &mut usize,
-) -> Result<(), AllocError> {
+) -> Result<()> {
     for name in map.keys() {
         names.insert(name.as_str())?;
         *count = count.saturating_add(1);
@@ -267,7 +251,7 @@ fn schema_of(
     levels: usize,
     paths: &[&str],
     samples: &[&Value],
-) -> Result<Map<String, Value>, AllocError>
+) -> Result<Map<String, Value>>
     ensures conform { IfOk result
         (λ schema. EachValue (Fits (suc levels) (object (members_view schema.entries))) (seen samples.now)) }
     ensures nests { IfOk result (λ schema. depth (object (members_view schema.entries)) ≤ room levels) }
@@ -293,7 +277,7 @@ fn add_items(
     paths: &[&str],
     samples: &[&Value],
     schema: &mut Map<String, Value>,
-) -> Result<(), AllocError>
+) -> Result<()>
     ensures { OnOk result (AddsItems levels (seen samples.now)
         (members_view schema.old.entries) (members_view schema.new.entries)) }
 {
@@ -313,7 +297,7 @@ fn add_keyed(
     paths: &[&str],
     maps: &[&Map<String, Value>],
     schema: &mut Map<String, Value>,
-) -> Result<(), AllocError>
+) -> Result<()>
     ensures { OnOk result (AddsOthers levels (maps_seen maps.now) (members_view schema.old.entries) (members_view schema.new.entries)
         ⊎ AddsProperties levels (maps_seen maps.now) (members_view schema.old.entries) (members_view schema.new.entries)) }
 {
@@ -331,7 +315,7 @@ fn add_others(
     levels: usize,
     maps: &[&Map<String, Value>],
     schema: &mut Map<String, Value>,
-) -> Result<(), AllocError>
+) -> Result<()>
     ensures { OnOk result (AddsOthers levels (maps_seen maps.now)
         (members_view schema.old.entries) (members_view schema.new.entries)) }
 {
@@ -351,7 +335,7 @@ fn add_properties(
     paths: &[&str],
     maps: &[&Map<String, Value>],
     schema: &mut Map<String, Value>,
-) -> Result<(), AllocError>
+) -> Result<()>
     ensures { OnOk result (AddsProperties levels (maps_seen maps.now)
         (members_view schema.old.entries) (members_view schema.new.entries)) }
 {
@@ -382,7 +366,7 @@ fn add_keys(
     maps: &[&Map<String, Value>],
     map: &Map<String, Value>,
     keys: &mut Keys,
-) -> Result<(), AllocError>
+) -> Result<()>
     requires { AreTold levels (maps_seen maps.now) (members_view keys.old.properties.entries)
         (items_view keys.old.required.items) }
     ensures { OnOk result (AreTold levels (maps_seen maps.now) (members_view keys.new.properties.entries)
@@ -405,7 +389,7 @@ fn add_key(
     maps: &[&Map<String, Value>],
     name: &str,
     keys: &mut Keys,
-) -> Result<(), AllocError>
+) -> Result<()>
     requires { AreTold levels (maps_seen maps.now) (members_view keys.old.properties.entries)
         (items_view keys.old.required.items) }
     ensures { OnOk result (AreTold levels (maps_seen maps.now) (members_view keys.new.properties.entries)

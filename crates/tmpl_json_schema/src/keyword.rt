@@ -1,9 +1,10 @@
 //! Looks through the keywords of a document: what is wrong with one, and of which to warn.
-use crate::fault::{Refused, SchemaFault, at_index, refusal, refusal_of, under};
+use crate::Result;
+use crate::fault::{Refused, SchemaFault, at_index, refusal, refusal_by, refusal_of, under};
 use crate::known::{is_keyword, near_keyword};
 use crate::reference::{fragment_of, parts_of, pointed, under_pointer};
 use serde_json::Value;
-use std::alloc::{AllocError, Global};
+use std::alloc::Global;
 use tmpl_values::Bytes;
 
 /// The most warnings that are given.
@@ -103,7 +104,7 @@ struct Search<'d> {
 
 impl Search<'_> {
     /// Adds a warning, unless there is one of the same words.
-    fn warn(&mut self, text: String) -> Result<(), AllocError> {
+    fn warn(&mut self, text: String) -> Result<()> {
         if self.warnings.len() >= MOST_WARNINGS
             || self.warnings.iter().any(|other| other.text == text)
         {
@@ -123,7 +124,7 @@ impl Search<'_> {
     }
 
     /// Places the warnings from this one on under a key.
-    fn place(&mut self, first: usize, key: &str) -> Result<(), AllocError> {
+    fn place(&mut self, first: usize, key: &str) -> Result<()> {
         for warning in self.warnings.iter_mut().skip(first) {
             warning.path.push(String::from_str(self.alloc, key)?)?;
         }
@@ -192,21 +193,15 @@ impl Search<'_> {
 
 /// Whether it is a JSON Pointer, and no other name.
 fn is_pointer(text: &[u8]) -> bool {
-    match text {
-        [] | [b'/', ..] => true,
-        _ => false,
-    }
+    matches!(text, [] | [b'/', ..])
 }
 
 /// The refusal of a keyword that is near another.
 fn unknown(alloc: Global, name: &str, near: &str) -> SchemaFault {
-    match format!(in alloc; "the keyword \"{name}\" is not known: write \"{near}\"") {
-        Ok(text) => SchemaFault::Refused(Refused {
-            path: Vec::new(alloc),
-            text,
-        }),
-        Err(_) => SchemaFault::OutOfMemory,
-    }
+    refusal_by(
+        alloc,
+        format!(in alloc; "the keyword \"{name}\" is not known: write \"{near}\""),
+    )
 }
 
 /// Looks through a part of a document.

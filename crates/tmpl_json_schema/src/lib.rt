@@ -35,3 +35,6 @@ pub use kinds::{Kinds, is_every_kind, kinds_of, lets_no_map};
 pub use read::{choices_in, chosen_by, items_in, part_in};
 pub use schema::{read_document, read_schema, warnings_of};
 pub use violation::{Violation, violations_of};
+
+/// What a function gives whose only error is that memory ran out, unless it names another.
+type Result<T, E = std::alloc::AllocError> = std::result::Result<T, E>;

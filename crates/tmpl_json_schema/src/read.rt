@@ -37,6 +37,9 @@ pub(crate) struct Reader<'s> {
     pub(crate) alloc: Global,
 }
 
+/// A shape that is read, or why it is not.
+type Read = Result<Shape, SchemaFault>;
+
 /// The pointer of a `$ref`, if it is one of the names. One that points nowhere in the document is refused.
 fn listed_in(reader: &Reader<'_>, reference: &Value) -> Result<Option<Bytes>, SchemaFault>
     ensures { IfOk result (λ o. o ≡ listed_in reader.now.names.now (view reference.now)) }
@@ -84,11 +87,7 @@ pub fn choices_in(schema: &Value) -> Option<&Value>
 
 /// The shape of a schema, in which as many levels are read as there are steps.
 #[cycle(read)]
-pub(crate) fn shape_by(
-    reader: &Reader<'_>,
-    steps: usize,
-    schema: &Value,
-) -> Result<Shape, SchemaFault>
+pub(crate) fn shape_by(reader: &Reader<'_>, steps: usize, schema: &Value) -> Read
     ensures { IfOk result (λ s. shape_by reader.now.draft reader.now.names.now steps (view schema.now) ≡ Some (shape_of s)) }
 {
     if steps == 0 {
@@ -107,7 +106,7 @@ pub(crate) fn shape_by(
 
 /// The shape of a schema that is an object.
 #[cycle(read)]
-fn object_shape(reader: &Reader<'_>, steps: usize, schema: &Value) -> Result<Shape, SchemaFault>
+fn object_shape(reader: &Reader<'_>, steps: usize, schema: &Value) -> Read
     ensures { IfOk result (λ s. object_shape (shape_by reader.now.draft reader.now.names.now steps) reader.now.draft
         reader.now.names.now (view schema.now) ≡ Some (shape_of s)) }
 {
@@ -120,7 +119,7 @@ fn object_shape(reader: &Reader<'_>, steps: usize, schema: &Value) -> Result<Sha
 
 /// The shape of a schema beside a `$ref` that is not looked up, if there is one.
 #[cycle(read)]
-fn beside_shape(reader: &Reader<'_>, steps: usize, schema: &Value) -> Result<Shape, SchemaFault>
+fn beside_shape(reader: &Reader<'_>, steps: usize, schema: &Value) -> Read
     ensures { IfOk result (λ s. beside_shape (shape_by reader.now.draft reader.now.names.now steps) reader.now.draft
         (view schema.now) (get (codes "$ref") (view schema.now)) ≡ Some (shape_of s)) }
 {
@@ -144,12 +143,7 @@ fn check_const(reader: &Reader<'_>, schema: &Value) -> Result<(), SchemaFault>
 
 /// The shape of a schema without a `$ref`.
 #[cycle(read)]
-fn plain_shape(
-    reader: &Reader<'_>,
-    steps: usize,
-    schema: &Value,
-    kinds: Kinds,
-) -> Result<Shape, SchemaFault>
+fn plain_shape(reader: &Reader<'_>, steps: usize, schema: &Value, kinds: Kinds) -> Read
     ensures { IfOk result (λ s. plain_shape (shape_by reader.now.draft reader.now.names.now steps) (view schema.now) kinds
         ≡ Some (shape_of s)) }
 {
@@ -190,12 +184,7 @@ pub fn part_in(schema: &Value) -> Option<&Value>
 
 /// The shape of a schema without a `$ref` and without alternatives.
 #[cycle(read)]
-fn whole_shape(
-    reader: &Reader<'_>,
-    steps: usize,
-    schema: &Value,
-    kinds: Kinds,
-) -> Result<Shape, SchemaFault>
+fn whole_shape(reader: &Reader<'_>, steps: usize, schema: &Value, kinds: Kinds) -> Read
     ensures { IfOk result (λ s. whole_shape (shape_by reader.now.draft reader.now.names.now steps) (view schema.now) kinds
         ≡ Some (shape_of s)) }
 {
@@ -222,7 +211,7 @@ pub fn chosen_by(schema: &Value) -> &'static str {
 
 /// The shape of any of these.
 #[cycle(read)]
-fn choice_shape(reader: &Reader<'_>, steps: usize, choices: &Value) -> Result<Shape, SchemaFault>
+fn choice_shape(reader: &Reader<'_>, steps: usize, choices: &Value) -> Read
     ensures { IfOk result (λ s. choice_shape (shape_by reader.now.draft reader.now.names.now steps) (view choices.now)
         ≡ Some (shape_of s)) }
 {
@@ -245,7 +234,7 @@ fn count_alternatives(shape: &Shape) -> usize {
 
 /// The shape of any of the schemas.
 #[cycle(read)]
-fn some_shape(reader: &Reader<'_>, steps: usize, choices: &[Value]) -> Result<Shape, SchemaFault>
+fn some_shape(reader: &Reader<'_>, steps: usize, choices: &[Value]) -> Read
     ensures { IfOk result (λ s. fold (choice_with (shape_by reader.now.draft reader.now.names.now steps)) never
         (items_view choices.now) ≡ Some (shape_of s)) }
 {
@@ -269,12 +258,7 @@ fn some_shape(reader: &Reader<'_>, steps: usize, choices: &[Value]) -> Result<Sh
 
 /// The shape of values of these kinds, by the keywords of fields and items.
 #[cycle(read)]
-fn content_shape(
-    reader: &Reader<'_>,
-    steps: usize,
-    schema: &Value,
-    kinds: Kinds,
-) -> Result<Shape, SchemaFault>
+fn content_shape(reader: &Reader<'_>, steps: usize, schema: &Value, kinds: Kinds) -> Read
     ensures { IfOk result (λ s. content_shape (shape_by reader.now.draft reader.now.names.now steps) (view schema.now) kinds
         ≡ Some (shape_of s)) }
 {
@@ -306,7 +290,7 @@ pub fn items_in(schema: &Value) -> Option<&Value>
 
 /// The shape of items.
 #[cycle(read)]
-fn items_shape(reader: &Reader<'_>, steps: usize, schema: &Value) -> Result<Shape, SchemaFault>
+fn items_shape(reader: &Reader<'_>, steps: usize, schema: &Value) -> Read
     ensures { IfOk result (λ s. items_shape (shape_by reader.now.draft reader.now.names.now steps) (view schema.now)
         ≡ Some (shape_of s)) }
 {
@@ -321,7 +305,7 @@ fn items_shape(reader: &Reader<'_>, steps: usize, schema: &Value) -> Result<Shap
 
 /// The shape of fields that are not named.
 #[cycle(read)]
-fn additional_shape(reader: &Reader<'_>, steps: usize, schema: &Value) -> Result<Shape, SchemaFault>
+fn additional_shape(reader: &Reader<'_>, steps: usize, schema: &Value) -> Read
     ensures { IfOk result (λ s. additional_in (shape_by reader.now.draft reader.now.names.now steps) (view schema.now)
         (get (codes "additionalProperties") (view schema.now)) ≡ Some (shape_of s)) }
 {
@@ -336,12 +320,7 @@ fn additional_shape(reader: &Reader<'_>, steps: usize, schema: &Value) -> Result
 
 /// The shape of fields whose names one of the patterns may match too.
 #[cycle(read)]
-fn with_patterns(
-    reader: &Reader<'_>,
-    steps: usize,
-    patterns: Option<&Value>,
-    shape: Shape,
-) -> Result<Shape, SchemaFault>
+fn with_patterns(reader: &Reader<'_>, steps: usize, patterns: Option<&Value>, shape: Shape) -> Read
     ensures { IfOk result (λ s. with_patterns (shape_by reader.now.draft reader.now.names.now steps)
         (option_map (λ v. view v.now) patterns.entry) (shape_of shape) ≡ Some (shape_of s)) }
 {
@@ -367,7 +346,7 @@ fn with_each_pattern(
     steps: usize,
     patterns: &Map<String, Value>,
     shape: Shape,
-) -> Result<Shape, SchemaFault>
+) -> Read
     ensures { IfOk result (λ s. fold_members (with_pattern (shape_by reader.now.draft reader.now.names.now steps))
         (shape_of shape) (members_view patterns.now.entries) ≡ Some (shape_of s)) }
 {

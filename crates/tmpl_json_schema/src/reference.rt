@@ -5,10 +5,11 @@ ghost use Rattle.serde_json.specs.View.{view};
 ghost use Rattle.tmpl_json_schema.specs.Document.{fragment_of};
 ghost use Rattle.tmpl_json_schema.specs.computed.Reading.{is_listed};
 
+use crate::Result;
 use crate::fault::{SchemaFault, under};
 use percent_encoding::percent_decode;
 use serde_json::Value;
-use std::alloc::{AllocError, Global};
+use std::alloc::Global;
 use std::str::from_utf8;
 use tmpl_values::Bytes;
 
@@ -26,7 +27,7 @@ pub(crate) fn is_listed(names: &[Bytes], name: &[u8]) -> bool
 }
 
 /// The JSON Pointer of a reference within the document, without the escapes of a URI; none where it points elsewhere.
-pub(crate) fn fragment_of(alloc: Global, reference: &str) -> Result<Option<Bytes>, AllocError>
+pub(crate) fn fragment_of(alloc: Global, reference: &str) -> Result<Option<Bytes>>
     ensures { IfOk result (λ o. o ≡ fragment_of reference.now) }
 {
     match reference.as_bytes() {
@@ -50,7 +51,7 @@ pub(crate) fn pointed<'r>(root: &'r Value, pointer: &[u8]) -> Option<&'r Value>
 }
 
 /// The keys and indexes of a pointer, the first part first.
-pub(crate) fn parts_of(alloc: Global, pointer: &[u8]) -> Result<Vec<String>, AllocError> {
+pub(crate) fn parts_of(alloc: Global, pointer: &[u8]) -> Result<Vec<String>> {
     let mut parts = Vec::new(alloc);
     for part in from_utf8(pointer).unwrap_or("").split('/').skip(1) {
         parts.push(unescaped(alloc, part)?)?;
@@ -59,7 +60,7 @@ pub(crate) fn parts_of(alloc: Global, pointer: &[u8]) -> Result<Vec<String>, All
 }
 
 /// A part of a pointer without its escapes.
-fn unescaped(alloc: Global, part: &str) -> Result<String, AllocError> {
+fn unescaped(alloc: Global, part: &str) -> Result<String> {
     let mut text = String::new(alloc);
     let mut is_escape = false;
     for letter in part.chars() {

@@ -11,6 +11,7 @@ ghost use Rattle.tmpl_json_schema.specs.Document.{IsOfSchema, document_of, draft
 ghost use Rattle.tmpl_json_schema.specs.Keywords.{AreKnownAt, IsKnown};
 ghost use Rattle.tmpl_json_schema.specs.computed.Defined.{AreLookedUp, IsDefinition, are_defined};
 
+use crate::Result;
 use crate::base::is_one_base;
 use crate::draft::{Draft, draft_of};
 use crate::fault::{Refused, SchemaFault, refusal, refusal_of};
@@ -82,12 +83,7 @@ fn count_values(value: &Value, counted: usize) -> usize {
 }
 
 /// Adds the pointers of each `$ref` that points into the document.
-fn add_names(
-    alloc: Global,
-    root: &Value,
-    value: &Value,
-    names: &mut Vec<Bytes>,
-) -> Result<(), AllocError> {
+fn add_names(alloc: Global, root: &Value, value: &Value, names: &mut Vec<Bytes>) -> Result<()> {
     match value {
         Value::Array(items) => {
             for item in items {
@@ -108,12 +104,7 @@ fn add_names(
 }
 
 /// Adds the pointer of a `$ref`, if it points into the document and is new.
-fn add_name(
-    alloc: Global,
-    root: &Value,
-    reference: &Value,
-    names: &mut Vec<Bytes>,
-) -> Result<(), AllocError> {
+fn add_name(alloc: Global, root: &Value, reference: &Value, names: &mut Vec<Bytes>) -> Result<()> {
     let Value::String(text) = reference else {
         return Ok(());
     };
@@ -183,12 +174,9 @@ fn are_defined(definitions: &[Definition], names: &[Bytes]) -> bool
 
 /// The place of the definition of a name.
 fn place_of(definitions: &[Definition], name: &[u8]) -> Option<usize> {
-    for (place, definition) in definitions.iter().enumerate() {
-        if definition.name.as_slice() == name {
-            return Some(place);
-        }
-    }
-    None
+    definitions
+        .iter()
+        .position(|definition| definition.name.as_slice() == name)
 }
 
 /// Adds the places of the definitions that a shape leads to through alternatives and references alone, each as many
@@ -197,7 +185,7 @@ fn add_alternatives(
     definitions: &[Definition],
     shape: &Shape,
     places: &mut Vec<usize>,
-) -> Result<usize, AllocError> {
+) -> Result<usize> {
     let mut count: usize = 0;
     let mut rest = shape;
     while let Shape::Either(one, other) = rest {
@@ -225,10 +213,7 @@ struct Alternatives {
 }
 
 /// What each definition leads to.
-fn alternatives_of(
-    alloc: Global,
-    definitions: &[Definition],
-) -> Result<Vec<Alternatives>, AllocError> {
+fn alternatives_of(alloc: Global, definitions: &[Definition]) -> Result<Vec<Alternatives>> {
     let mut all = Vec::new(alloc);
     for definition in definitions {
         let mut places = Vec::new(alloc);
@@ -249,7 +234,7 @@ fn count_of(alternatives: &Alternatives, counts: &[usize]) -> usize {
 }
 
 /// Whether some definition has too many alternatives, where none leads back to itself.
-fn has_too_many(alloc: Global, all: &[Alternatives]) -> Result<bool, AllocError> {
+fn has_too_many(alloc: Global, all: &[Alternatives]) -> Result<bool> {
     let mut counts: Vec<usize> = Vec::new(alloc);
     for alternatives in all {
         counts.push(alternatives.plain)?;
@@ -268,11 +253,7 @@ fn has_too_many(alloc: Global, all: &[Alternatives]) -> Result<bool, AllocError>
 }
 
 /// Adds the places that were not seen before.
-fn add_places(
-    found: &[usize],
-    seen: &mut Vec<bool>,
-    reached: &mut Vec<usize>,
-) -> Result<(), AllocError> {
+fn add_places(found: &[usize], seen: &mut Vec<bool>, reached: &mut Vec<usize>) -> Result<()> {
     for place in found {
         if let Some(is_seen) = seen.get_mut(*place) {
             if !*is_seen {
@@ -285,7 +266,7 @@ fn add_places(
 }
 
 /// Whether the definition of this place leads back to itself, where each leads to these places.
-fn leads_back(alloc: Global, next: &[Alternatives], start: usize) -> Result<bool, AllocError> {
+fn leads_back(alloc: Global, next: &[Alternatives], start: usize) -> Result<bool> {
     let mut seen: Vec<bool> = Vec::new(alloc);
     for _ in next {
         seen.push(false)?;
@@ -327,11 +308,11 @@ fn check_definitions(alloc: Global, definitions: &[Definition]) -> Result<(), Sc
 
 /// The pointers of the references in a document of this draft, if each is looked up in it; else none.
 fn names_in(alloc: Global, draft: Draft, root: &Value) -> Result<Vec<Bytes>, SchemaFault> {
+    let mut names = Vec::new(alloc);
     if is_one_base(draft, root) {
-        all_names(alloc, root)
-    } else {
-        Ok(Vec::new(alloc))
+        add_names(alloc, root, root, &mut names)?;
     }
+    Ok(names)
 }
 
 /// Whether pointers are looked up in a document of this draft, if there are any.
@@ -342,13 +323,6 @@ fn are_looked_up(draft: Draft, root: &Value, names: &[Bytes]) -> bool
         [] => true,
         [_, ..] => is_one_base(draft, root),
     }
-}
-
-/// The pointers of the references in a document.
-fn all_names(alloc: Global, root: &Value) -> Result<Vec<Bytes>, SchemaFault> {
-    let mut names = Vec::new(alloc);
-    add_names(alloc, root, root, &mut names)?;
-    Ok(names)
 }
 
 /// Refuses a document that is too large, or has references to too many places.

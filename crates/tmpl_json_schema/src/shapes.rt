@@ -6,8 +6,9 @@ ghost use Rattle.tmpl_shape.specs.View.{fields_of, shape_of};
 ghost use Rattle.tmpl_shape.specs.computed.Shapes.{gathered};
 ghost use Rattle.tmpl_json_schema.specs.computed.Reading.{by_kinds, if_kind, is_anything, is_never, keep_kinds, or_if, or_shape, rest_of, shape_of_rest};
 
+use crate::Result;
 use crate::kinds::Kinds;
-use std::alloc::{AllocError, Global};
+use std::alloc::Global;
 use tmpl_schema::{Fields, Shape, copy_shape, either, list_of};
 
 /// Whether there is no value.
@@ -45,7 +46,7 @@ pub(crate) fn is_anything(shape: &Shape) -> bool
 }
 
 /// The values of the one and of the other.
-pub(crate) fn or_shape(alloc: Global, one: Shape, other: Shape) -> Result<Shape, AllocError>
+pub(crate) fn or_shape(alloc: Global, one: Shape, other: Shape) -> Result<Shape>
     ensures { IfOk result (λ s. shape_of s ≡ or_shape (shape_of one) (shape_of other)) }
 {
     if is_never(&one) {
@@ -58,7 +59,7 @@ pub(crate) fn or_shape(alloc: Global, one: Shape, other: Shape) -> Result<Shape,
 }
 
 /// Those of the other, and of the one if that is asked for.
-fn or_if(alloc: Global, is_asked: bool, one: Shape, other: Shape) -> Result<Shape, AllocError>
+fn or_if(alloc: Global, is_asked: bool, one: Shape, other: Shape) -> Result<Shape>
     ensures { IfOk result (λ s. shape_of s ≡ or_if is_asked (shape_of one) (shape_of other)) }
 {
     if is_asked {
@@ -75,7 +76,7 @@ pub(crate) fn by_kinds(
     least: u64,
     item: Shape,
     fields: Fields,
-) -> Result<Shape, AllocError>
+) -> Result<Shape>
     ensures { IfOk result (λ s. shape_of s ≡ by_kinds kinds (shape_of texts) least (shape_of item) (fields_of fields)) }
 {
     let shape = or_if(alloc, kinds.map, Shape::Record(fields), Shape::Never)?;
@@ -96,7 +97,7 @@ fn if_kind(is_asked: bool, shape: Shape) -> Shape
 
 /// Those of these kinds.
 #[cycle(keep)]
-pub(crate) fn kept(alloc: Global, kinds: Kinds, shape: Shape) -> Result<Shape, AllocError>
+pub(crate) fn kept(alloc: Global, kinds: Kinds, shape: Shape) -> Result<Shape>
     ensures { IfOk result (λ s. shape_of s ≡ keep_kinds kinds (shape_of shape)) }
 {
     match shape {
@@ -119,7 +120,7 @@ pub(crate) fn kept(alloc: Global, kinds: Kinds, shape: Shape) -> Result<Shape, A
 
 /// Those of these kinds among the values of the one and of the other, of whose alternatives each is looked at in turn.
 #[cycle(keep)]
-fn kept_either(alloc: Global, kinds: Kinds, one: Shape, other: Shape) -> Result<Shape, AllocError>
+fn kept_either(alloc: Global, kinds: Kinds, one: Shape, other: Shape) -> Result<Shape>
     ensures { IfOk result (λ s. shape_of s ≡ or_shape (keep_kinds kinds (shape_of one)) (keep_kinds kinds (shape_of other))) }
 {
     let mut back = either(alloc, kept(alloc, kinds, one)?, Shape::Never)?;
@@ -133,7 +134,7 @@ fn kept_either(alloc: Global, kinds: Kinds, one: Shape, other: Shape) -> Result<
 }
 
 /// The values of any of the first, of which the last stands foremost, and of the second.
-fn or_all(alloc: Global, back: Shape, last: Shape) -> Result<Shape, AllocError>
+fn or_all(alloc: Global, back: Shape, last: Shape) -> Result<Shape>
     ensures { IfOk result (λ all. shape_of all ≡ gathered or_shape (shape_of back) (shape_of last)) }
 {
     let mut back = back;
@@ -150,7 +151,7 @@ fn or_all(alloc: Global, back: Shape, last: Shape) -> Result<Shape, AllocError>
 }
 
 /// The fields of this shape that are not named.
-pub(crate) fn rest_of(alloc: Global, shape: Shape) -> Result<Fields, AllocError>
+pub(crate) fn rest_of(alloc: Global, shape: Shape) -> Result<Fields>
     ensures { IfOk result (λ fs. fields_of fs ≡ rest_of (shape_of shape)) }
 {
     if is_never(&shape) {
@@ -160,7 +161,7 @@ pub(crate) fn rest_of(alloc: Global, shape: Shape) -> Result<Fields, AllocError>
 }
 
 /// The shape of a field that is not named.
-pub(crate) fn shape_of_rest(alloc: Global, fields: &Fields) -> Result<Shape, AllocError>
+pub(crate) fn shape_of_rest(alloc: Global, fields: &Fields) -> Result<Shape>
     ensures { IfOk result (λ s. shape_of s ≡ shape_of_rest (fields_of fields.now)) }
 {
     match fields {

@@ -7,16 +7,17 @@ ghost use Rattle.tmpl_shape.specs.Shape.{never};
 ghost use Rattle.tmpl_shape.specs.View.{shape_of};
 ghost use Rattle.tmpl_json_schema.specs.computed.Reading.{const_texts, enum_texts, fold, is_short, text_with, texts_in};
 
+use crate::Result;
 use crate::shapes::or_shape;
 use serde_json::Value;
-use std::alloc::{AllocError, Global};
+use std::alloc::Global;
 use tmpl_schema::{Shape, copy_name};
 
 /// The most constants of `enum` that are told apart.
 const MOST_CONSTANTS: usize = 32;
 
 /// The string that a constant is.
-fn const_texts(alloc: Global, constant: &Value) -> Result<Shape, AllocError>
+fn const_texts(alloc: Global, constant: &Value) -> Result<Shape>
     ensures { IfOk result (λ s. shape_of s ≡ const_texts (view constant.now)) }
 {
     match constant {
@@ -26,7 +27,7 @@ fn const_texts(alloc: Global, constant: &Value) -> Result<Shape, AllocError>
 }
 
 /// These, and the string that a constant is.
-fn text_with(alloc: Global, shape: Shape, constant: &Value) -> Result<Shape, AllocError>
+fn text_with(alloc: Global, shape: Shape, constant: &Value) -> Result<Shape>
     ensures { IfOk result (λ s. text_with (shape_of shape) (view constant.now) ≡ Some (shape_of s)) }
 {
     match constant {
@@ -39,7 +40,7 @@ fn text_with(alloc: Global, shape: Shape, constant: &Value) -> Result<Shape, All
 }
 
 /// The strings that constants are.
-fn texts_with(alloc: Global, constants: &[Value]) -> Result<Shape, AllocError>
+fn texts_with(alloc: Global, constants: &[Value]) -> Result<Shape>
     ensures { IfOk result (λ s. fold text_with never (items_view constants.now) ≡ Some (shape_of s)) }
 {
     let mut shape = Shape::Never;
@@ -58,7 +59,7 @@ fn is_short(constants: &[Value]) -> bool
 }
 
 /// The strings that `enum` leaves.
-fn enum_texts(alloc: Global, constants: &Value) -> Result<Shape, AllocError>
+fn enum_texts(alloc: Global, constants: &Value) -> Result<Shape>
     ensures { IfOk result (λ s. shape_of s ≡ enum_texts (view constants.now)) }
 {
     match constants {
@@ -73,7 +74,7 @@ fn enum_texts(alloc: Global, constants: &Value) -> Result<Shape, AllocError>
 }
 
 /// The strings that both leave, of which not too many are told apart.
-pub(crate) fn texts_in(alloc: Global, schema: &Value) -> Result<Shape, AllocError>
+pub(crate) fn texts_in(alloc: Global, schema: &Value) -> Result<Shape>
     ensures { IfOk result (λ s. shape_of s ≡ texts_in (view schema.now)) }
 {
     match schema.get("const") {

@@ -1,7 +1,8 @@
 //! Where a value does not conform to a schema: the keywords that it does not meet, each with the way to the value and
 //! to the keyword. Only what is certain is reported: what a `pattern` or a `format` asks of a string is not looked at.
 
-use crate::conform::{LEVELS, conforms, is_property, referred};
+use crate::Result;
+use crate::conform::{LEVELS, conforms, is_property, is_small, referred};
 use crate::draft::draft_seen;
 use serde_json::{Map, Value, put};
 use std::alloc::{AllocError, Global};
@@ -9,9 +10,6 @@ use std::mem::replace;
 
 /// The most parts of a value that are held to a part of a schema.
 const MOST_VISITS: usize = 200_000;
-
-/// The largest integer that has an exact neighbor among floats, and the least.
-const EXACT: i64 = 9_007_199_254_740_992;
 
 /// The most bytes of a value that are shown.
 const MOST_SHOWN: usize = 60;
@@ -78,7 +76,7 @@ pub fn violations_of(
 impl<'w> Walk<'w> {
     /// Adds where a value does not conform to a schema.
     #[cycle(violation)]
-    fn visit(&mut self, levels: usize, schema: &'w Value, value: &Value) -> Result<(), AllocError> {
+    fn visit(&mut self, levels: usize, schema: &'w Value, value: &Value) -> Result<()> {
         if levels == 0 || self.left == 0 || self.found.len() >= self.most {
             return Ok(());
         }
@@ -101,7 +99,7 @@ impl<'w> Walk<'w> {
         schema: &'w Value,
         rules: &'w Map<String, Value>,
         value: &Value,
-    ) -> Result<(), AllocError> {
+    ) -> Result<()> {
         for (keyword, rule) in rules.iter() {
             let name = keyword.as_str();
             self.way.push(escaped(self.alloc, name)?)?;
@@ -120,7 +118,7 @@ impl<'w> Walk<'w> {
         keyword: &str,
         rule: &'w Value,
         value: &Value,
-    ) -> Result<(), AllocError> {
+    ) -> Result<()> {
         if !self.is_used(schema, keyword) {
             return Ok(());
         }
@@ -160,7 +158,7 @@ impl<'w> Walk<'w> {
         levels: usize,
         reference: &'w Value,
         value: &Value,
-    ) -> Result<(), AllocError> {
+    ) -> Result<()> {
         let (Some(schema), Some(text)) = (referred(self.root, reference), reference.as_str()) else {
             return Ok(());
         };
@@ -173,12 +171,7 @@ impl<'w> Walk<'w> {
 
     /// Adds where a value does not conform to one of these schemas, as each asks.
     #[cycle(violation)]
-    fn visit_each(
-        &mut self,
-        levels: usize,
-        schemas: &'w Value,
-        value: &Value,
-    ) -> Result<(), AllocError> {
+    fn visit_each(&mut self, levels: usize, schemas: &'w Value, value: &Value) -> Result<()> {
         let Value::Array(schemas) = schemas else {
             return Ok(());
         };
@@ -198,7 +191,7 @@ impl<'w> Walk<'w> {
         keyword: &str,
         schemas: &'w Value,
         value: &Value,
-    ) -> Result<(), AllocError> {
+    ) -> Result<()> {
         let Value::Array(schemas) = schemas else {
             return Ok(());
         };
@@ -224,12 +217,7 @@ impl<'w> Walk<'w> {
 
     /// Whether a value is seen not to conform to a schema.
     #[cycle(violation)]
-    fn is_refused(
-        &mut self,
-        levels: usize,
-        schema: &'w Value,
-        value: &Value,
-    ) -> Result<bool, AllocError> {
+    fn is_refused(&mut self, levels: usize, schema: &'w Value, value: &Value) -> Result<bool> {
         let most = replace(&mut self.most, usize::MAX);
         let before = self.found.len();
         self.visit(levels, schema, value)?;
@@ -246,11 +234,11 @@ impl<'w> Walk<'w> {
         levels: usize,
         properties: &'w Value,
         members: &Map<String, Value>,
-    ) -> Result<(), AllocError> {
+    ) -> Result<()> {
         for (name, member) in members.iter() {
             if let Some(schema) = properties.get(name.as_str()) {
                 self.way.push(escaped(self.alloc, name.as_str())?)?;
-                self.enter(name.as_str())?;
+                self.enter(name.clone()?, false)?;
                 self.visit(levels, schema, member)?;
                 let _ = self.path.pop();
                 let _ = self.way.pop();
@@ -267,12 +255,12 @@ impl<'w> Walk<'w> {
         schema: &'w Value,
         others: &'w Value,
         members: &Map<String, Value>,
-    ) -> Result<(), AllocError> {
+    ) -> Result<()> {
         for (name, member) in members.iter() {
             if is_property(schema, name.as_str()) {
                 continue;
             }
-            self.enter(name.as_str())?;
+            self.enter(name.clone()?, false)?;
             if *others == Value::Bool(false) {
                 self.add("not in \"properties\", and \"additionalProperties\" is false")?;
             } else {
@@ -285,40 +273,23 @@ impl<'w> Walk<'w> {
 
     /// Adds where items do not conform to their schema.
     #[cycle(violation)]
-    fn visit_items(
-        &mut self,
-        levels: usize,
-        schema: &'w Value,
-        items: &[Value],
-    ) -> Result<(), AllocError> {
+    fn visit_items(&mut self, levels: usize, schema: &'w Value, items: &[Value]) -> Result<()> {
         for (index, item) in items.iter().enumerate() {
             let name = format!(in self.alloc; "{index}")?;
-            self.path.push(Step {
-                name,
-                is_item: true,
-            })?;
+            self.enter(name, true)?;
             self.visit(levels, schema, item)?;
             let _ = self.path.pop();
         }
         Ok(())
     }
 
-    /// Goes to the value of a key.
-    fn enter(&mut self, key: &str) -> Result<(), AllocError> {
-        let name = String::from_str(self.alloc, key)?;
-        self.path.push(Step {
-            name,
-            is_item: false,
-        })?;
-        Ok(())
+    /// Goes to the value of a key, or to an item.
+    fn enter(&mut self, name: String, is_item: bool) -> Result<()> {
+        Ok(self.path.push(Step { name, is_item })?)
     }
 
     /// Adds which keys a map has not that it is required to have.
-    fn visit_required(
-        &mut self,
-        names: &Value,
-        members: &Map<String, Value>,
-    ) -> Result<(), AllocError> {
+    fn visit_required(&mut self, names: &Value, members: &Map<String, Value>) -> Result<()> {
         let Value::Array(names) = names else {
             return Ok(());
         };
@@ -340,7 +311,7 @@ impl<'w> Walk<'w> {
         keyword: &str,
         rule: &Value,
         value: &Value,
-    ) -> Result<(), AllocError> {
+    ) -> Result<()> {
         let Some(words) = words_for(keyword) else {
             return Ok(());
         };
@@ -360,7 +331,7 @@ impl<'w> Walk<'w> {
         keyword: &str,
         rule: &Value,
         value: &Value,
-    ) -> Result<bool, AllocError> {
+    ) -> Result<bool> {
         let mut rules: Map<String, Value> = Map::new(self.alloc);
         put(&mut rules, self.alloc, keyword, rule.clone()?)?;
         for twin in ["exclusiveMinimum", "exclusiveMaximum"] {
@@ -372,26 +343,20 @@ impl<'w> Walk<'w> {
     }
 
     /// Adds what is wrong about a value.
-    fn add_about(
-        &mut self,
-        value: &Value,
-        before: &str,
-        keyword: &str,
-        after: &str,
-    ) -> Result<(), AllocError> {
+    fn add_about(&mut self, value: &Value, before: &str, keyword: &str, after: &str) -> Result<()> {
         let value = shown(self.alloc, value)?;
         let text = format!(in self.alloc; "{value}{before}{keyword}{after}")?;
         self.push(text)
     }
 
     /// Adds what is wrong.
-    fn add(&mut self, text: &str) -> Result<(), AllocError> {
+    fn add(&mut self, text: &str) -> Result<()> {
         let text = String::from_str(self.alloc, text)?;
         self.push(text)
     }
 
     /// Adds what is wrong here.
-    fn push(&mut self, text: String) -> Result<(), AllocError> {
+    fn push(&mut self, text: String) -> Result<()> {
         if self.found.len() >= self.most {
             return Ok(());
         }
@@ -431,29 +396,20 @@ fn words_for(keyword: &str) -> Option<&'static str> {
 
 /// Whether a rule about a value is decided exactly: no float is compared.
 fn is_exact(rule: &Value, value: &Value) -> bool {
-    is_small(value) && is_whole(rule)
-}
-
-/// Whether a value is no number that has no exact neighbors among floats.
-fn is_small(value: &Value) -> bool {
-    match value {
-        Value::Number(number) => number.as_i64().is_some_and(|n| -EXACT < n && n < EXACT),
+    let is_compared = match value {
+        Value::Number(number) => is_small(number),
         _ => true,
-    }
-}
-
-/// Whether no float stands in a rule.
-fn is_whole(rule: &Value) -> bool {
-    match rule {
-        Value::Number(number) => !number.is_f64(),
-        Value::Array(values) => values.iter().all(|value| !value.is_f64()),
-        Value::Object(_) => true,
-        _ => true,
-    }
+    };
+    is_compared
+        && match rule {
+            Value::Number(number) => !number.is_f64(),
+            Value::Array(values) => !values.iter().any(Value::is_f64),
+            _ => true,
+        }
 }
 
 /// A value as JSON, of which two dots follow the beginning where it is long.
-fn shown(alloc: Global, value: &Value) -> Result<String, AllocError> {
+fn shown(alloc: Global, value: &Value) -> Result<String> {
     match value {
         Value::Array(items) if items.len() > 9 => {
             let count = items.len();
@@ -474,7 +430,7 @@ fn shown(alloc: Global, value: &Value) -> Result<String, AllocError> {
 }
 
 /// The first characters of a text, and two dots.
-fn shortened(alloc: Global, text: &str) -> Result<String, AllocError> {
+fn shortened(alloc: Global, text: &str) -> Result<String> {
     let mut short = String::new(alloc);
     for letter in text.chars().take(MOST_SHOWN) {
         short.push(letter)?;
@@ -484,7 +440,7 @@ fn shortened(alloc: Global, text: &str) -> Result<String, AllocError> {
 }
 
 /// The names of a way, the last first.
-fn names_of(alloc: Global, path: &[Step]) -> Result<Vec<String>, AllocError> {
+fn names_of(alloc: Global, path: &[Step]) -> Result<Vec<String>> {
     let mut names = Vec::new(alloc);
     for step in path.iter().rev() {
         names.push(String::from_str(alloc, step.name.as_str())?)?;
@@ -493,7 +449,7 @@ fn names_of(alloc: Global, path: &[Step]) -> Result<Vec<String>, AllocError> {
 }
 
 /// A way as it is shown.
-fn place_of(alloc: Global, path: &[Step]) -> Result<String, AllocError> {
+fn place_of(alloc: Global, path: &[Step]) -> Result<String> {
     let mut place = String::new(alloc);
     for step in path {
         let name = step.name.as_str();
@@ -507,7 +463,7 @@ fn place_of(alloc: Global, path: &[Step]) -> Result<String, AllocError> {
 }
 
 /// The parts of the JSON Pointer of a reference within the document.
-fn way_of(alloc: Global, reference: &str) -> Result<Vec<String>, AllocError> {
+fn way_of(alloc: Global, reference: &str) -> Result<Vec<String>> {
     let mut way = Vec::new(alloc);
     for part in reference.split('/').skip(1) {
         way.push(String::from_str(alloc, part)?)?;
@@ -516,7 +472,7 @@ fn way_of(alloc: Global, reference: &str) -> Result<Vec<String>, AllocError> {
 }
 
 /// The JSON Pointer of these parts.
-fn pointer_of(alloc: Global, way: &[String]) -> Result<String, AllocError> {
+fn pointer_of(alloc: Global, way: &[String]) -> Result<String> {
     let mut pointer = String::new(alloc);
     for part in way {
         pointer.push('/')?;
@@ -526,7 +482,7 @@ fn pointer_of(alloc: Global, way: &[String]) -> Result<String, AllocError> {
 }
 
 /// A name as a part of a JSON Pointer.
-fn escaped(alloc: Global, name: &str) -> Result<String, AllocError> {
+fn escaped(alloc: Global, name: &str) -> Result<String> {
     let mut part = String::new(alloc);
     for letter in name.chars() {
         match letter {

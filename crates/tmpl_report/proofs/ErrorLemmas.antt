@@ -1,6 +1,8 @@
 -- For `findings_of`: the errors among what is found, those of one more file, and those of data.
-use Rattle.std.proofs.Common.{◌≡◌, ◌==◌, ◌∙◌, ◌++◌, ◌||◌, Bool, true, false, ℕ, List, [], ◌∷◌, Option, Some, None, Ok, IfSome, ap, append-nil, append_assoc, cond, if◌then◌else◌, is_none, map, not, refl, sym, take}
+use Rattle.std.proofs.Common.{◌≡◌, ◌==◌, ◌∙◌, ◌++◌, ◌||◌, Bool, true, false, ℕ, List, [], ◌∷◌, Option, Some, None, Ok, IfSome, ap, append-nil, append_assoc, arith, cond, if◌then◌else◌, is_none, map, not, refl, subst, sym, take}
+use Rattle.std.specs.Prelude.{codes}
 use Rattle.std.specs.List.{AllByRecursion}
+use Rattle.std.proofs.lemmas.Grind.{common_steps}
 use Rattle.std.proofs.lemmas.List.Elements.{filter-append}
 use Rattle.tmpl_values.specs.Json.{data_of}
 use Rattle.tmpl_values.specs.Value.{Value}
@@ -9,14 +11,15 @@ use Rattle.tmpl_syntax.specs.Examine.{Examined}
 use Rattle.tmpl_syntax.specs.Parse.{Parses}
 use Rattle.tmpl_syntax.specs.declared.refused.Refused.{Refused}
 use Rattle.tmpl_problems.specs.Checked.{most, refused_in}
-use Rattle.tmpl_problems.specs.Judged.{IsJudgedData}
+use Rattle.tmpl_problems.specs.Judged.{IsJudgedData, words_for}
+use Rattle.tmpl_problems.specs.Line.{left_words, reason_with}
 use Rattle.tmpl_problems.specs.declared.data_check.DataReason.{DataReason}
 use Rattle.tmpl_problems.specs.declared.problem.Problem.{Problem}
 use Rattle.tmpl_problems.specs.declared.problem.Problems.{Problems}
 use Rattle.tmpl_report.specs.declared.source.Source.{Source}
 use Rattle.tmpl_report.specs.declared.entry.Level.{Level}
 use Rattle.tmpl_report.specs.declared.entry.Level.TheVariants.{Error, Warning}
-use Rattle.tmpl_report.specs.Errors.{AreOfData, AreOfFile, AreOfFiles, AreOfReason, IsOfReason, MayBeOfSchema, error_of, errors_in, errors_of, left_error, left_in}
+use Rattle.tmpl_report.specs.Errors.{AreOfData, AreOfFile, AreOfFiles, AreOfReason, IsOfReason, MayBeOfSchema, data_rule_for, error_at, error_of, errors_in, errors_of, left_in}
 use Rattle.tmpl_report.specs.Finding.{Finding, has_error}
 use Rattle.tmpl_report.specs.Level.{is_error}
 use Rattle.tmpl_report.specs.Safe.{AreAccepted}
@@ -62,11 +65,11 @@ all_errors file [] = refl
 all_errors file (p ∷ ps) = ap (λ xs. error_of file p ∷ xs) (all_errors file ps)
 
 left_errors : (file : List ℕ) (left : ℕ) → errors_in (left_in file left) ≡ left_in file left
-left_errors file left = by (left == 0)
+left_errors file left = by (left == 0) (codes "too-many-errors") (left_words left)
   where
-    by : (b : Bool) → errors_in (if b then [] else left_error file left ∷ []) ≡ (if b then [] else left_error file left ∷ [])
-    by true = refl
-    by false = refl
+    by : (b : Bool) (rule text : List ℕ) → errors_in (if b then [] else error_at file (1, 1) rule text ∷ []) ≡ (if b then [] else error_at file (1, 1) rule text ∷ [])
+    by true rule text = refl
+    by false rule text = refl
 
 pub errors_in-errors_of : (file : List ℕ) (all : Problems) → errors_in (errors_of file all) ≡ errors_of file all
 errors_in-errors_of file all =
@@ -249,3 +252,19 @@ turned false true e = refl
 turned false false e = cc
 
 pub ruleset more = (more-none, more-same)
+
+pub of-reason : (file : List ℕ) (place : ℕ × ℕ) (why : DataReason) (f : Finding) (rule text words detail : List ℕ)
+    → f ≡ error_at file place rule text → rule ≡ data_rule_for why → text ≡ reason_with words detail → words ≡ words_for why
+    → IsOfReason file why f
+of-reason file place why f rule text words detail is by told of =
+    subst (IsOfReason file why) (sym is) (refl, refl, by, (detail, told ∙ ap (λ w. reason_with w detail) of))
+
+is_some : (left : ℕ) → (left ≡ 0 → ⊥) → (left == 0) ≡ false
+is_some left none = grind (arith, common_steps)
+
+pub left-added : (old new : List Finding) (file : List ℕ) (left : ℕ) (f : Finding) (text : List ℕ) → (left ≡ 0 → ⊥)
+    → f ≡ error_at file (1, 1) (codes "too-many-errors") text → text ≡ left_words left → new ≡ old ++ f ∷ []
+    → new ≡ old ++ left_in file left
+left-added old new file left f text none is said added =
+    added ∙ ap (λ g. old ++ g ∷ []) (is ∙ ap (λ t. error_at file (1, 1) (codes "too-many-errors") t) said)
+    ∙ ap (λ b. old ++ (if b then [] else error_at file (1, 1) (codes "too-many-errors") (left_words left) ∷ [])) (sym (is_some left none))

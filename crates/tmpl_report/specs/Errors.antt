@@ -37,32 +37,18 @@ rule_for kind.TooLong = codes "too-long"
 rule_for kind.SecondDefinition = codes "second-definition"
 rule_for kind.OutOfMemory = codes "unreadable"
 
+-- an error at a line and a column of a file, which breaks a rule and has no note
+abbrev pub error_at : List ℕ → ℕ × ℕ → List ℕ → List ℕ → Finding
+error_at file place rule text =
+    record { file = file; line = place.0; column = place.1; level = Error; rule = rule; text = text; note = None }
+
 -- what is wrong in a file, as it is found
 abbrev pub error_of : List ℕ → Problem → Finding
-error_of file p = record {
-  file = file;
-  line = p.refused.line;
-  column = p.refused.column;
-  level = Error;
-  rule = rule_for p.refused.kind;
-  text = text_of p;
-  note = None;
-}
+error_of file p = error_at file (p.refused.line, p.refused.column) (rule_for p.refused.kind) (text_of p)
 
 -- that there are at least so many more, where some are left out
-abbrev pub left_error : List ℕ → ℕ → Finding
-left_error file left = record {
-  file = file;
-  line = 1;
-  column = 1;
-  level = Error;
-  rule = codes "too-many-errors";
-  text = left_words left;
-  note = None;
-}
-
 abbrev pub left_in : List ℕ → ℕ → List Finding
-left_in file left = if left == 0 then [] else left_error file left ∷ []
+left_in file left = if left == 0 then [] else error_at file (1, 1) (codes "too-many-errors") (left_words left) ∷ []
 
 -- all that is reported of it: first what is refused
 abbrev pub errors_of : List ℕ → Problems → List Finding

@@ -1,7 +1,8 @@
 //! The commands of a template that a fault may be of, and what their operands are over the data.
 
+use crate::Result;
 use serde_json::Value;
-use std::alloc::{AllocError, Global};
+use std::alloc::Global;
 use std::str::from_utf8;
 use tmpl_funcs::Func;
 use tmpl_syntax::{Command, Control, ControlNode, Node, NodeKind, Operand, Pipeline, Set, Tree};
@@ -105,7 +106,7 @@ pub(crate) fn commands_at<'w>(
     line: u64,
     wanted: Wanted<'w>,
     start: Option<&'w Value>,
-) -> Result<Vec<Found<'w>>, AllocError> {
+) -> Result<Vec<Found<'w>>> {
     let mut walk = Walk {
         alloc,
         line,
@@ -195,6 +196,16 @@ fn is_true(value: &Value) -> bool {
     }
 }
 
+/// The names of the fields that an operand asks for.
+fn fields_of(operand: &Operand) -> &[Bytes] {
+    match operand {
+        Operand::Fields(fields)
+        | Operand::Variable { fields, .. }
+        | Operand::Group { fields, .. } => fields.as_slice(),
+        _ => &[],
+    }
+}
+
 /// The only operand of a command, if it has one.
 fn only_operand(command: &Command) -> Option<&Operand> {
     match command.operands.as_slice() {
@@ -206,12 +217,7 @@ fn only_operand(command: &Command) -> Option<&Operand> {
 impl<'w> Walk<'w> {
     /// Visits nodes.
     #[cycle(nodes)]
-    fn visit_all(
-        &mut self,
-        nodes: &'w [Node],
-        scope: Scope<'w>,
-        levels: usize,
-    ) -> Result<(), AllocError> {
+    fn visit_all(&mut self, nodes: &'w [Node], scope: Scope<'w>, levels: usize) -> Result<()> {
         if levels == 0 {
             return Ok(());
         }
@@ -223,7 +229,7 @@ impl<'w> Walk<'w> {
 
     /// Visits a node.
     #[cycle(nodes)]
-    fn visit(&mut self, node: &'w Node, scope: Scope<'w>, levels: usize) -> Result<(), AllocError> {
+    fn visit(&mut self, node: &'w Node, scope: Scope<'w>, levels: usize) -> Result<()> {
         if node.line == self.line {
             self.here = node.start;
             self.visit_here(node, scope)?;
@@ -232,7 +238,7 @@ impl<'w> Walk<'w> {
             return Ok(());
         };
         let commands = control.header.pipeline.commands.as_slice();
-        let value = self.value_of(commands, scope, MOST_LEVELS);
+        let value = self.value(commands, scope, MOST_LEVELS);
         match (control.control, value) {
             (Control::Range, Some(Value::Array(items))) => {
                 self.visit_items(control, items.as_slice(), scope, levels)
@@ -249,7 +255,7 @@ impl<'w> Walk<'w> {
         items: &'w [Value],
         scope: Scope<'w>,
         levels: usize,
-    ) -> Result<(), AllocError> {
+    ) -> Result<()> {
         if items.is_empty() {
             return self.visit_all(control.other.as_slice(), scope, levels);
         }
@@ -274,7 +280,7 @@ impl<'w> Walk<'w> {
         value: Option<&'w Value>,
         scope: Scope<'w>,
         levels: usize,
-    ) -> Result<(), AllocError> {
+    ) -> Result<()> {
         let is_true = value.map(is_true);
         let outside = scope.sure_if(is_true.is_some());
         let dot = match control.control {
@@ -292,72 +298,47 @@ impl<'w> Walk<'w> {
     }
 
     /// Visits a node of the line.
-    fn visit_here(&mut self, node: &'w Node, scope: Scope<'w>) -> Result<(), AllocError> {
-        if matches!(self.wanted, Wanted::Any) && !matches!(node.what, NodeKind::Text(_)) {
-            return self.add(Vec::new(self.alloc), scope);
-        }
-        match &node.what {
-            NodeKind::Action(header) => self.visit_pipeline(&header.pipeline, scope),
-            NodeKind::Template(name, pipeline) => {
-                if let Wanted::Template(wanted) = self.wanted {
-                    if name.as_slice() == wanted {
-                        self.add(Vec::new(self.alloc), scope)?;
-                    }
+    fn visit_here(&mut self, node: &'w Node, scope: Scope<'w>) -> Result<()> {
+        let none = Vec::new(self.alloc);
+        let pipeline = match (self.wanted, &node.what) {
+            (_, NodeKind::Text(_)) => return Ok(()),
+            (Wanted::Any, _) => return self.add(none, scope),
+            (Wanted::Template(wanted), NodeKind::Template(name, _)) if name.as_slice() == wanted =>
+                {
+                    return self.add(none, scope);
                 }
-                match pipeline {
-                    Some(pipeline) => self.visit_pipeline(pipeline, scope),
-                    None => Ok(()),
-                }
+            (Wanted::Range, NodeKind::Control(control)) if control.control == Control::Range => {
+                return self.visit_range(&control.header.pipeline, scope);
             }
-            NodeKind::Control(control) => self.visit_header(control, scope),
-            _ => Ok(()),
-        }
+            (_, NodeKind::Action(header)) => &header.pipeline,
+            (_, NodeKind::Template(_, Some(pipeline))) => pipeline,
+            (_, NodeKind::Control(control)) => &control.header.pipeline,
+            _ => return Ok(()),
+        };
+        self.commands(pipeline.commands.as_slice(), scope, MOST_LEVELS)
     }
 
-    /// Visits the header of a control.
-    fn visit_header(
-        &mut self,
-        control: &'w ControlNode,
-        scope: Scope<'w>,
-    ) -> Result<(), AllocError> {
-        let pipeline = &control.header.pipeline;
-        if matches!(control.control, Control::Range) && matches!(self.wanted, Wanted::Range) {
-            let operands = match pipeline.commands.as_slice() {
-                [command] => match only_operand(command) {
-                    Some(operand) => vec![in self.alloc; self.given(operand, scope)]?,
-                    None => Vec::new(self.alloc),
-                },
-                _ => Vec::new(self.alloc),
-            };
-            return self.add(operands, scope);
+    /// Adds what a range visits.
+    fn visit_range(&mut self, pipeline: &'w Pipeline, scope: Scope<'w>) -> Result<()> {
+        let mut operands = Vec::new(self.alloc);
+        if let [command] = pipeline.commands.as_slice() {
+            if let Some(operand) = only_operand(command) {
+                operands.push(self.given(operand, scope))?;
+            }
         }
-        self.visit_pipeline(pipeline, scope)
-    }
-
-    /// Visits a pipeline.
-    fn visit_pipeline(
-        &mut self,
-        pipeline: &'w Pipeline,
-        scope: Scope<'w>,
-    ) -> Result<(), AllocError> {
-        self.visit_commands(pipeline.commands.as_slice(), scope, MOST_LEVELS)
+        self.add(operands, scope)
     }
 
     /// Visits the commands of a pipeline.
     #[cycle(commands)]
-    fn visit_commands(
-        &mut self,
-        commands: &'w [Command],
-        scope: Scope<'w>,
-        levels: usize,
-    ) -> Result<(), AllocError> {
+    fn commands(&mut self, commands: &'w [Command], scope: Scope<'w>, levels: usize) -> Result<()> {
         if levels == 0 {
             return Ok(());
         }
         let mut piped: Option<Given<'w>> = None;
         for command in commands {
             self.visit_command(command, piped, scope)?;
-            self.visit_operands(command, scope, levels - 1)?;
+            self.operands(command, scope, levels - 1)?;
             piped = Some(match (piped, only_operand(command)) {
                 (None, Some(operand)) => self.given(operand, scope),
                 _ => Given::Unknown,
@@ -369,12 +350,7 @@ impl<'w> Walk<'w> {
     /// Visits what stands in parentheses among the operands of a command, and the fields that are wanted. Of `and` and `or`
     /// not each operand is evaluated.
     #[cycle(commands)]
-    fn visit_operands(
-        &mut self,
-        command: &'w Command,
-        scope: Scope<'w>,
-        levels: usize,
-    ) -> Result<(), AllocError> {
+    fn operands(&mut self, command: &'w Command, scope: Scope<'w>, levels: usize) -> Result<()> {
         let operands = command.operands.as_slice();
         let is_junction = matches!(
             operands.first(),
@@ -383,7 +359,7 @@ impl<'w> Walk<'w> {
         let scope = scope.sure_if(!is_junction);
         for operand in operands {
             if let Operand::Group { commands, .. } = operand {
-                self.visit_commands(commands.as_slice(), scope, levels)?;
+                self.commands(commands.as_slice(), scope, levels)?;
             }
             self.visit_fields(operand, scope)?;
         }
@@ -396,7 +372,7 @@ impl<'w> Walk<'w> {
         command: &'w Command,
         piped: Option<Given<'w>>,
         scope: Scope<'w>,
-    ) -> Result<(), AllocError> {
+    ) -> Result<()> {
         let (Wanted::Call(wanted), [Operand::Function(func), rest @ ..]) = (
             self.wanted,
             command.operands.as_slice(),
@@ -417,16 +393,11 @@ impl<'w> Walk<'w> {
     }
 
     /// Looks whether a field of an operand is the one that is wanted, and adds the value that is asked for it.
-    fn visit_fields(&mut self, operand: &'w Operand, scope: Scope<'w>) -> Result<(), AllocError> {
+    fn visit_fields(&mut self, operand: &'w Operand, scope: Scope<'w>) -> Result<()> {
         let (Wanted::Field(wanted) | Wanted::Entry(wanted)) = self.wanted else {
             return Ok(());
         };
-        let names = match operand {
-            Operand::Fields(names) => names.as_slice(),
-            Operand::Variable { fields, .. } => fields.as_slice(),
-            Operand::Group { fields, .. } => fields.as_slice(),
-            _ => return Ok(()),
-        };
+        let names = fields_of(operand);
         for index in 0..names.len() {
             if names[index].as_slice() == wanted {
                 let given = self.before(operand, names.get(..index).unwrap_or(&[]), scope);
@@ -439,12 +410,12 @@ impl<'w> Walk<'w> {
     /// What is known of the value to which these fields of an operand lead.
     fn before(&self, operand: &'w Operand, names: &'w [Bytes], scope: Scope<'w>) -> Given<'w> {
         match operand {
-            Operand::Fields(_) => chain(Root::Dot, names, scope.dot),
+            Operand::Dot | Operand::Fields(_) => chain(Root::Dot, names, scope.dot),
             Operand::Variable { name, .. } if name.as_slice().is_empty() => {
                 chain(Root::Start, names, self.start)
             }
             Operand::Group { commands, .. } => {
-                let value = self.value_of(commands.as_slice(), scope, MOST_LEVELS);
+                let value = self.value(commands.as_slice(), scope, MOST_LEVELS);
                 chain(Root::Parentheses, names, value)
             }
             _ => Given::Unknown,
@@ -454,25 +425,15 @@ impl<'w> Walk<'w> {
     /// What is known of an operand.
     fn given(&self, operand: &'w Operand, scope: Scope<'w>) -> Given<'w> {
         match operand {
-            Operand::Dot => chain(Root::Dot, &[], scope.dot),
-            Operand::Fields(names) => self.before(operand, names.as_slice(), scope),
-            Operand::Variable { fields, .. } | Operand::Group { fields, .. } => {
-                self.before(operand, fields.as_slice(), scope)
-            }
             Operand::Number(number) => Given::Number(*number),
             Operand::Text(text) => Given::Text(text.as_slice()),
             Operand::Bool(is_true) => Given::Bool(*is_true),
-            _ => Given::Unknown,
+            _ => self.before(operand, fields_of(operand), scope),
         }
     }
 
     /// The value of a pipeline of a chain of fields, or of `index` with keys that are written out, where it is known.
-    fn value_of(
-        &self,
-        commands: &'w [Command],
-        scope: Scope<'w>,
-        levels: usize,
-    ) -> Option<&'w Value> {
+    fn value(&self, commands: &'w [Command], scope: Scope<'w>, levels: usize) -> Option<&'w Value> {
         let [command] = commands else {
             return None;
         };
@@ -481,18 +442,15 @@ impl<'w> Walk<'w> {
             [Operand::Function(Func::Index), operand, keys @ ..] => (operand, keys),
             _ => return None,
         };
-        let mut value = match operand {
-            Operand::Dot => scope.dot?,
-            Operand::Fields(names) => value_at(scope.dot?, names.as_slice())?,
-            Operand::Variable { name, fields } if name.as_slice().is_empty() => {
-                value_at(self.start?, fields.as_slice())?
+        let start = match operand {
+            Operand::Dot | Operand::Fields(_) => scope.dot,
+            Operand::Variable { name, .. } if name.as_slice().is_empty() => self.start,
+            Operand::Group { commands, .. } if levels > 0 => {
+                self.value(commands.as_slice(), scope, levels - 1)
             }
-            Operand::Group { commands, fields } if levels > 0 => value_at(
-                self.value_of(commands.as_slice(), scope, levels - 1)?,
-                fields.as_slice(),
-            )?,
-            _ => return None,
+            _ => None,
         };
+        let mut value = value_at(start?, fields_of(operand))?;
         for key in keys {
             value = item_at(value, key)?;
         }
@@ -500,13 +458,14 @@ impl<'w> Walk<'w> {
     }
 
     /// Adds a command.
-    fn add(&mut self, operands: Vec<Given<'w>>, scope: Scope<'w>) -> Result<(), AllocError> {
-        self.found.push(Found {
-            start: self.here,
-            operands,
-            is_sure: scope.is_sure,
-        })?;
-        Ok(())
+    fn add(&mut self, operands: Vec<Given<'w>>, scope: Scope<'w>) -> Result<()> {
+        Ok(
+            self.found.push(Found {
+                start: self.here,
+                operands,
+                is_sure: scope.is_sure,
+            })?,
+        )
     }
 }
 

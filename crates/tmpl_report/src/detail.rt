@@ -1,13 +1,14 @@
 //! What a fault of a run is about: the operands of its command, and of which kind their values are.
 
+use crate::Result;
 use crate::commands::{Found, Given, Root, Wanted, commands_at, is_called};
+use crate::source::Task;
 use serde_json::{Map, Value};
-use std::alloc::{AllocError, Global};
+use std::alloc::Global;
 use std::str::from_utf8;
 use tmpl_engine::{RunFault, RunFaultKind};
 use tmpl_funcs::{CallFault, Func};
 use tmpl_hints::Sentence;
-use tmpl_syntax::Set;
 use tmpl_values::Bytes;
 
 /// The most keys of a map that are shown.
@@ -25,22 +26,16 @@ pub(crate) struct Detail {
     pub(crate) start: Option<usize>,
 }
 
-/// What is known of a fault. The template that is rendered has this name, and starts with these data.
-pub(crate) fn detail_of(
-    alloc: Global,
-    set: &Set,
-    name: &[u8],
-    data: &Value,
-    fault: &RunFault<'_>,
-) -> Result<Detail, AllocError> {
-    let found = found_for(alloc, set, name, data, fault)?;
-    let text = text_of(alloc, fault, found.as_slice())?;
+/// What is known of a fault of the template over these data.
+pub(crate) fn detail_of(task: &Task<'_, '_>, data: &Value, fault: &RunFault<'_>) -> Result<Detail> {
+    let found = found_for(task, data, fault)?;
+    let text = text_of(task.alloc, fault, found.as_slice())?;
     let start = found.first().map(|first| first.start);
     Ok(Detail { text, start })
 }
 
 /// The message about a fault, where these commands are found.
-fn text_of(alloc: Global, fault: &RunFault<'_>, found: &[Found<'_>]) -> Result<String, AllocError> {
+fn text_of(alloc: Global, fault: &RunFault<'_>, found: &[Found<'_>]) -> Result<String> {
     let said = Sentence::new(alloc);
     match fault.kind {
         RunFaultKind::Call(func, why) => say_call(said, func, why, operands_of(found)),
@@ -59,12 +54,11 @@ fn text_of(alloc: Global, fault: &RunFault<'_>, found: &[Found<'_>]) -> Result<S
 
 /// The commands that the fault may be of.
 fn found_for<'w>(
-    alloc: Global,
-    set: &'w Set,
-    name: &[u8],
+    task: &Task<'w, '_>,
     data: &'w Value,
     fault: &RunFault<'w>,
-) -> Result<Vec<Found<'w>>, AllocError> {
+) -> Result<Vec<Found<'w>>> {
+    let Task { alloc, set, .. } = *task;
     let wanted = match fault.kind {
         RunFaultKind::Call(func, _) => Wanted::Call(func),
         RunFaultKind::NoField(field) => Wanted::Field(field),
@@ -76,7 +70,7 @@ fn found_for<'w>(
     let Some(tree) = set.get(fault.template) else {
         return Ok(Vec::new(alloc));
     };
-    let is_known = fault.template == name && !is_called(set, name);
+    let is_known = fault.template == task.name() && !is_called(set, task.name());
     let start = if is_known { Some(data) } else { None };
     let mut found = commands_at(alloc, tree, fault.line, wanted, start)?;
     found.retain(|found| !is_fine(wanted, found));
@@ -99,38 +93,21 @@ fn fails_at_first(wanted: Wanted<'_>, found: &[Found<'_>]) -> bool {
     is_exact && first.is_sure && rest.iter().all(|other| other.start == first.start)
 }
 
-/// Whether a command is seen not to fail: one that asks for the length of what has one, or for a field that is none of
-/// these faults.
+/// Whether a command is seen not to fail: its value has a length, or what is asked for a field is none of these faults.
 fn is_fine(wanted: Wanted<'_>, found: &Found<'_>) -> bool {
     let [given] = found.operands.as_slice() else {
         return false;
     };
-    match (wanted, value_in(given)) {
-        (Wanted::Call(Func::Len), Some(value)) => has_length(value),
-        (Wanted::Field(_), Some(value)) => value.is_object(),
-        (Wanted::Entry(name), Some(value)) => !value.is_object() || has_field(value, name),
+    let Given::Chain { value, .. } = given else {
+        return false;
+    };
+    match wanted {
+        Wanted::Call(Func::Len) => value.is_string() || value.is_array() || value.is_object(),
+        Wanted::Field(_) => value.is_object(),
+        Wanted::Entry(name) => {
+            !value.is_object() || from_utf8(name).is_ok_and(|name| value.get(name).is_some())
+        }
         _ => false,
-    }
-}
-
-/// The value of a chain of fields.
-fn value_in<'w>(given: &Given<'w>) -> Option<&'w Value> {
-    match given {
-        Given::Chain { value, .. } => Some(*value),
-        _ => None,
-    }
-}
-
-/// Whether a value has a length.
-fn has_length(value: &Value) -> bool {
-    value.is_string() || value.is_array() || value.is_object()
-}
-
-/// Whether a value has a field of this name.
-fn has_field(value: &Value, name: &[u8]) -> bool {
-    match from_utf8(name) {
-        Ok(name) => value.get(name).is_some(),
-        Err(_) => false,
     }
 }
 
@@ -160,8 +137,15 @@ fn say_call(said: Sentence, func: Func, why: CallFault, operands: &[Given<'_>]) 
     if matches!(why, CallFault::WrongCount) {
         return said;
     }
-    let (said, is_said) = say_operands(said, operands);
-    let said = if is_said { said.say("; ") } else { said };
+    let mut said = said;
+    let mut between = "";
+    for operand in operands {
+        if is_known(operand) {
+            said = say_known(said.say(between), operand);
+            between = ", ";
+        }
+    }
+    let said = said.say(if between.is_empty() { "" } else { "; " });
     said.say(taken_by(func, why))
 }
 
@@ -185,20 +169,6 @@ fn taken_by(func: Func, why: CallFault) -> &'static str {
         (Func::Printf, _) => "its format is a string",
         _ => "it takes arguments of other kinds",
     }
-}
-
-/// Says what is known of operands, one after the other, and whether something is.
-fn say_operands(said: Sentence, operands: &[Given<'_>]) -> (Sentence, bool) {
-    let mut said = said;
-    let mut is_said = false;
-    for operand in operands {
-        if is_known(operand) {
-            said = if is_said { said.say(", ") } else { said };
-            said = say_known(said, operand);
-            is_said = true;
-        }
-    }
-    (said, is_said)
 }
 
 /// Whether something is known of an operand.
@@ -250,12 +220,11 @@ fn say_keys(said: Sentence, members: &Map<String, Value>) -> Sentence {
 
 /// Says that a range does not visit a value.
 fn say_no_range(said: Sentence, operands: &[Given<'_>]) -> Sentence {
-    match operands {
-        [operand] if is_known(operand) => say_known(said, operand).say(
-            ": a range visits a list, a map or the numbers below an integer",
-        ),
-        _ => said.say("a range visits a list, a map or the numbers below an integer"),
-    }
+    let said = match operands {
+        [operand] if is_known(operand) => say_known(said, operand).say(": "),
+        _ => said,
+    };
+    said.say("a range visits a list, a map or the numbers below an integer")
 }
 
 /// Says what an operand is.
@@ -315,11 +284,8 @@ fn say_kind(said: Sentence, given: &Given<'_>) -> Sentence {
 fn say_value(said: Sentence, value: &Value) -> Sentence {
     match value {
         Value::Null => said.say("null"),
-        Value::Bool(is_true) => said.say(if *is_true {
-            "a boolean (true)"
-        } else {
-            "a boolean (false)"
-        }),
+        Value::Bool(true) => said.say("a boolean (true)"),
+        Value::Bool(false) => said.say("a boolean (false)"),
         Value::Number(number) => match number.as_i64() {
             Some(number) => say_number(said.say("an integer ("), number).say(")"),
             None => said.say("a number"),

@@ -1,5 +1,6 @@
 //! Something that is found.
-ghost use Rattle.std.specs.Prelude.{◌≡◌};
+ghost use Rattle.std.specs.Prelude.{◌≡◌, string_bytes};
+ghost use Rattle.tmpl_report.specs.Errors.{error_at};
 ghost use Rattle.tmpl_report.specs.Level.{is_error, word_of};
 ghost use Rattle.tmpl_report.specs.computed.Entries.{is_same};
 
@@ -14,13 +15,6 @@ pub enum Level {
 }
 
 impl Level {
-    /// Whether it is an error.
-    fn is_error(self) -> bool
-        ensures { result ≡ is_error self }
-    {
-        matches!(self, Level::Error)
-    }
-
     /// Its word.
     pub(crate) fn word(self) -> &'static str
         ensures { result.now ≡ word_of self }
@@ -62,12 +56,28 @@ impl<'a> Model for Entry<'a> {
     } };
 }
 
-impl Entry<'_> {
+impl<'a> Entry<'a> {
+    /// An error at a line and a column, without a note.
+    pub(crate) fn error(file: &'a str, place: (u64, u64), rule: Rule, text: String) -> Entry<'a>
+        ensures { result ≡ error_at file.now place rule.id.now (string_bytes text) }
+    {
+        let (line, column) = place;
+        Entry {
+            file,
+            level: Level::Error,
+            line,
+            column,
+            rule,
+            text,
+            note: None,
+        }
+    }
+
     /// Whether it is an error.
     pub(crate) fn is_error(&self) -> bool
         ensures { result ≡ is_error self.now.level }
     {
-        self.level.is_error()
+        matches!(self.level, Level::Error)
     }
 
     /// Whether the other says the same of the same place.

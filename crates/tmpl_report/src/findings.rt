@@ -6,9 +6,8 @@ ghost use Rattle.tmpl_values.specs.Json.{data_of, Flaw};
 ghost use Rattle.tmpl_values.specs.Value.{Value};
 ghost use Rattle.tmpl_syntax.specs.View.{set_view};
 ghost use Rattle.tmpl_report.specs.Errors.{AreErrors, AreOfData, AreOfFile, AreOfFiles, AreOfReason, AreOfSources, IsOfReason};
-ghost use Rattle.tmpl_report.specs.Errors.{error_of, errors_in, errors_of, left_error, left_in};
+ghost use Rattle.tmpl_report.specs.Errors.{error_of, errors_in, errors_of, left_in};
 ghost use Rattle.tmpl_report.specs.Finding.{Finding, has_error};
-ghost use Rattle.tmpl_report.specs.Level.{is_error};
 ghost use Rattle.tmpl_report.specs.Rendered.{IsValued};
 ghost use Rattle.tmpl_report.specs.Safe.{IsSafe};
 ghost use Rattle.tmpl_report.specs.Told.{told};
@@ -21,10 +20,10 @@ use crate::rule::{
     ALWAYS_FAILS, KEY_GIVEN_TWICE, MAY_FAIL, NEVER_CALLED, NO_SUCH_TEMPLATE, Rule, SUSPICIOUS,
     TOO_MANY_ERRORS, data_rule_of, rule_of,
 };
-use crate::schema::{add_schema, part_text, say_name};
+use crate::schema::{add_schema, refused_text, say_name};
 use crate::source::{Question, Source, Sources};
 use crate::values::add_values;
-use crate::{json, sarif, text};
+use crate::{Result, json, sarif, text};
 use indexmap::IndexSet;
 use std::alloc::{AllocError, Global};
 use std::marker::Model;
@@ -53,6 +52,7 @@ pub enum Format {
 /// What is found, file by file. Contracts see the list of it, in the order in which it is printed.
 #[derive(Drop)]
 pub struct Findings<'a> {
+    pub(crate) alloc: Global,
     pub(crate) entries: Vec<Entry<'a>>,
 }
 
@@ -78,6 +78,7 @@ impl<'a> Findings<'a> {
         ensures { result ≡ [] }
     {
         Findings {
+            alloc,
             entries: Vec::new(alloc),
         }
     }
@@ -86,7 +87,7 @@ impl<'a> Findings<'a> {
     pub fn has_errors(&self) -> bool
         ensures { result ≡ has_error self.now }
     {
-        has_error(self.entries.as_slice())
+        self.entries.iter().any(|entry| entry.is_error())
     }
 
     /// Whether there are none, and no warnings either.
@@ -113,7 +114,7 @@ impl<'a> Findings<'a> {
     }
 
     /// Adds what is found.
-    pub(crate) fn add(&mut self, entry: Entry<'a>) -> Result<(), AllocError>
+    pub(crate) fn add(&mut self, entry: Entry<'a>) -> Result<()>
         ensures { OnOk result (self.new ≡ self.old ++ entry.entry ∷ []) }
     {
         self.entries.push(entry)?;
@@ -121,7 +122,7 @@ impl<'a> Findings<'a> {
     }
 
     /// Adds what is found, unless the same was found before.
-    pub(crate) fn add_once(&mut self, entry: Entry<'a>) -> Result<(), AllocError>
+    pub(crate) fn add_once(&mut self, entry: Entry<'a>) -> Result<()>
         ensures added { OnOk result (self.new ≡ (if list_any (λ other. is_same other entry.entry) self.old
             then self.old else self.old ++ entry.entry ∷ [])) }
         ensures more { OnOk result (HasMore self.old self.new) }
@@ -134,42 +135,35 @@ impl<'a> Findings<'a> {
     }
 
     /// Adds what is wrong in a file: first what is refused.
-    fn add_problems(
-        &mut self,
-        alloc: Global,
-        file: &'a str,
-        problems: &Problems,
-    ) -> Result<(), AllocError>
+    fn add_problems(&mut self, file: &'a str, problems: &Problems) -> Result<()>
         ensures { OnOk result (self.new ≡ self.old ++ errors_of file.now problems.now) }
     {
-        self.add_errors(alloc, file, problems.refused.as_slice())?;
-        self.add_errors(alloc, file, problems.beyond.as_slice())?;
-        self.add_left(alloc, file, problems.left)
+        self.add_errors(file, problems.refused.as_slice())?;
+        self.add_errors(file, problems.beyond.as_slice())?;
+        self.add_left(file, problems.left)
     }
 
     /// Adds how many errors of a file are left out, where some are.
-    fn add_left(&mut self, alloc: Global, file: &'a str, left: usize) -> Result<(), AllocError>
+    fn add_left(&mut self, file: &'a str, left: usize) -> Result<()>
         ensures { OnOk result (self.new ≡ self.old ++ left_in file.now left) }
     {
         if left == 0 {
             return Ok(());
         }
-        let entry = left_entry(alloc, file, left)?;
-        self.add(entry)
+        let text = left_text(self.alloc, left)?;
+        self.add(Entry::error(file, (1, 1), TOO_MANY_ERRORS, text))?;
+        Ok(())
     }
 
     /// Adds errors of a file.
-    fn add_errors(
-        &mut self,
-        alloc: Global,
-        file: &'a str,
-        problems: &[Problem],
-    ) -> Result<(), AllocError>
+    fn add_errors(&mut self, file: &'a str, problems: &[Problem]) -> Result<()>
         ensures { OnOk result (self.new ≡ self.old ++ map (error_of file.now) problems.now) }
     {
         for problem in problems {
-            let entry = problem_entry(alloc, file, problem)?;
-            self.add(entry)?;
+            let refused = &problem.refused;
+            let place = (refused.line, refused.column);
+            let text = problem_text(self.alloc, problem)?;
+            self.add(Entry::error(file, place, rule_of(refused.kind), text))?;
         }
         Ok(())
     }
@@ -181,7 +175,7 @@ impl<'a> Findings<'a> {
         place: (u64, u64),
         rule: Rule,
         text: String,
-    ) -> Result<(), AllocError>
+    ) -> Result<()>
         ensures added { OnOk result
             (self.new ≡ self.old ++ warning_of file.now place rule.id.now (string_bytes text) ∷ []) }
         ensures errors { OnOk result (errors_in self.new ≡ errors_in self.old) }
@@ -199,13 +193,7 @@ impl<'a> Findings<'a> {
     }
 
     /// Adds warnings of a file by a rule: the first, and how many more there are.
-    fn add_warnings(
-        &mut self,
-        alloc: Global,
-        file: &'a str,
-        rule: Rule,
-        warnings: Vec<Warning>,
-    ) -> Result<(), AllocError>
+    fn add_warnings(&mut self, file: &'a str, rule: Rule, warnings: Vec<Warning>) -> Result<()>
         ensures { OnOk result (errors_in self.new ≡ errors_in self.old) }
     {
         let mut warnings = warnings;
@@ -214,58 +202,36 @@ impl<'a> Findings<'a> {
         for warning in warnings.into_iter() {
             self.warn(file, (warning.line, warning.column), rule, warning.text)?;
         }
-        self.warn_of_more(alloc, file, rule, left)
+        self.warn_of_more(file, rule, left)
     }
 
     /// Adds how many warnings of a file by a rule are left out, where some are.
-    fn warn_of_more(
-        &mut self,
-        alloc: Global,
-        file: &'a str,
-        rule: Rule,
-        left: usize,
-    ) -> Result<(), AllocError>
+    fn warn_of_more(&mut self, file: &'a str, rule: Rule, left: usize) -> Result<()>
         ensures { OnOk result (errors_in self.new ≡ errors_in self.old) }
     {
         if left == 0 {
             return Ok(());
         }
-        let text = Sentence::new(alloc)
+        let text = Sentence::new(self.alloc)
             .say("such warnings that are left out: ")
             .count(left as u64)
             .finish()?;
         self.warn(file, (1, 1), rule, text)
     }
 
-    /// Adds what is suspicious in a file, the actions in it that always fail, and the names in it that no file has.
-    fn add_survey(
-        &mut self,
-        alloc: Global,
-        file: &'a str,
-        survey: Survey<'_>,
-        templates: &Templates<'_>,
-    ) -> Result<(), AllocError>
-        ensures { OnOk result (errors_in self.new ≡ errors_in self.old) }
-    {
-        let Survey {
-            warnings,
-            failing,
-            called,
-            ..
-        } = survey;
-        self.add_warnings(alloc, file, SUSPICIOUS, warnings)?;
-        self.add_warnings(alloc, file, ALWAYS_FAILS, failing)?;
-        self.add_calls(alloc, file, called.as_slice(), templates)
+    /// The message about a template of this name.
+    fn about(&self, before: &str, name: &[u8], after: &str) -> Result<String> {
+        let said = Sentence::new(self.alloc).say(before).say("\"");
+        say_name(said, name).say("\"").say(after).finish()
     }
 
     /// Adds the calls in a file of templates that no file has.
     fn add_calls(
         &mut self,
-        alloc: Global,
         file: &'a str,
         called: &[Named<'_>],
         templates: &Templates<'_>,
-    ) -> Result<(), AllocError>
+    ) -> Result<()>
         ensures { OnOk result (errors_in self.new ≡ errors_in self.old) }
     {
         let mut left: usize = 0;
@@ -279,32 +245,27 @@ impl<'a> Findings<'a> {
                 continue;
             }
             found = found.saturating_add(1);
-            let text = about(alloc, "no file defines the template ", call.name, "")?;
+            let text = self.about("no file defines the template ", call.name, "")?;
             self.warn(file, (call.line, call.column), NO_SUCH_TEMPLATE, text)?;
         }
-        self.warn_of_more(alloc, file, NO_SUCH_TEMPLATE, left)
+        self.warn_of_more(file, NO_SUCH_TEMPLATE, left)
     }
 
     /// Adds the definitions of a file that nothing calls.
     fn add_uncalled(
         &mut self,
-        alloc: Global,
         file: &'a str,
         asked: &str,
         defined: &[Named<'_>],
         templates: &Templates<'_>,
-    ) -> Result<(), AllocError>
+    ) -> Result<()>
         ensures { OnOk result (errors_in self.new ≡ errors_in self.old) }
     {
         for definition in defined {
             if !templates.called.contains(definition.name) && definition.name != asked.as_bytes() {
-                let text = about(alloc, "the template ", definition.name, " is never called")?;
-                self.warn(
-                    file,
-                    (definition.line, definition.column),
-                    NEVER_CALLED,
-                    text,
-                )?;
+                let text = self.about("the template ", definition.name, " is never called")?;
+                let place = (definition.line, definition.column);
+                self.warn(file, place, NEVER_CALLED, text)?;
             }
         }
         Ok(())
@@ -313,110 +274,92 @@ impl<'a> Findings<'a> {
     /// Adds a warning of a part of a schema, by a rule.
     pub(crate) fn warn_of_part(
         &mut self,
-        alloc: Global,
         schema: &Source<'a>,
         rule: Rule,
         part: &Refused,
-    ) -> Result<(), AllocError>
+    ) -> Result<()>
         ensures { OnOk result (errors_in self.new ≡ errors_in self.old) }
     {
         let place = position_of(schema.bytes.as_slice(), part.path.as_slice());
-        let text = part_text(alloc, part)?;
+        let text = refused_text(self.alloc, "", part)?;
         self.warn(schema.name, place, rule, text)
     }
 
     /// Adds that no file defines the template that is asked for, if that is so.
-    fn add_asked(
-        &mut self,
-        alloc: Global,
-        question: &Question<'a>,
-        templates: &Templates<'_>,
-    ) -> Result<(), AllocError>
+    fn add_asked(&mut self, question: &Question<'a>, templates: &Templates<'_>) -> Result<()>
         ensures { OnOk result (errors_in self.new ≡ errors_in self.old) }
     {
         let (Some(asked), Some(first)) = (question.name, question.first) else {
             return Ok(());
         };
-        if templates.defined.contains(asked.as_bytes()) {
+        let name = asked.as_bytes();
+        if templates.defined.contains(name) {
             return Ok(());
         }
-        let text = about(
-            alloc,
-            "no file defines the template ",
-            asked.as_bytes(),
-            " of --name",
-        )?;
+        let text = self.about("no file defines the template ", name, " of --name")?;
         self.warn(first, (1, 1), NO_SUCH_TEMPLATE, text)
     }
 
     /// Adds what is found in template files, and their templates to the set.
     fn add_files(
         &mut self,
-        alloc: Global,
         hash: NameHash,
         question: &Question<'a>,
         files: &[Source<'a>],
         set: &mut Set,
-    ) -> Result<(), AllocError>
+    ) -> Result<()>
         ensures { OnOk result ((errors : List Finding)
             × AreOfFiles (set_view set.old) files.now (set_view set.new) errors
             × (errors_in self.new ≡ errors_in self.old ++ errors)) }
     {
-        let surveys = survey_all(alloc, hash, files)?;
-        let templates = templates_in(alloc, hash, files, surveys.as_slice())?;
-        self.add_each(alloc, hash, question.name, files, surveys, &templates, set)?;
-        self.add_asked(alloc, question, &templates)?;
+        let surveys = surveyed(self.alloc, hash, files)?;
+        let templates = templates_in(self.alloc, hash, files, surveys.as_slice())?;
+        self.add_each(hash, question.name, files, surveys, &templates, set)?;
+        self.add_asked(question, &templates)?;
         Ok(())
     }
 
     /// The same of each file and its survey.
     fn add_each(
         &mut self,
-        alloc: Global,
         hash: NameHash,
         asked: Option<&str>,
         files: &[Source<'a>],
         surveys: Vec<Survey<'_>>,
         templates: &Templates<'_>,
         set: &mut Set,
-    ) -> Result<(), AllocError>
+    ) -> Result<()>
         ensures { OnOk result ((errors : List Finding)
             × AreOfFiles (set_view set.old) files.now (set_view set.new) errors
             × (errors_in self.new ≡ errors_in self.old ++ errors)) }
     {
         let mut surveys = surveys.into_iter();
         for file in files {
-            self.add_checked(alloc, hash, file, &mut *set)?;
-            self.add_surveyed(alloc, file, asked, surveys.next(), templates)?;
+            self.add_checked(hash, file, &mut *set)?;
+            self.add_surveyed(file, asked, surveys.next(), templates)?;
         }
         Ok(())
     }
 
     /// Adds what is wrong in a file, and its templates to the set.
-    fn add_checked(
-        &mut self,
-        alloc: Global,
-        hash: NameHash,
-        file: &Source<'a>,
-        set: &mut Set,
-    ) -> Result<(), AllocError>
+    fn add_checked(&mut self, hash: NameHash, file: &Source<'a>, set: &mut Set) -> Result<()>
         ensures { OnOk result ((errors : List Finding)
             × AreOfFile (set_view set.old) file.now (set_view set.new) errors × (self.new ≡ self.old ++ errors)) }
     {
-        let problems = check_file(alloc, set, hash, file.name, file.bytes.as_slice())?;
-        self.add_problems(alloc, file.name, &problems)?;
+        let problems = check_file(self.alloc, set, hash, file.name, file.bytes.as_slice())?;
+        self.add_problems(file.name, &problems)?;
         Ok(())
     }
 
-    /// Adds what the survey of a file has, unless it is one of others.
+    /// Adds what the survey of a file has, unless it is one of others: the definitions that nothing calls, what is
+    /// suspicious, the actions that always fail, and the calls of templates that no file has.
     fn add_surveyed(
         &mut self,
-        alloc: Global,
         file: &Source<'a>,
         asked: Option<&str>,
         survey: Option<Survey<'_>>,
         templates: &Templates<'_>,
-    ) -> Result<(), AllocError>
+    ) -> Result<()>
         ensures { OnOk result (errors_in self.new ≡ errors_in self.old) }
     {
         let Some(survey) = survey else {
@@ -425,24 +368,23 @@ impl<'a> Findings<'a> {
         if file.is_library {
             return Ok(());
         }
+        let name = file.name;
         if let Some(asked) = asked {
-            self.add_uncalled(
-                alloc,
-                file.name,
-                asked,
-                survey.defined.as_slice(),
-                templates,
-            )?;
+            self.add_uncalled(name, asked, survey.defined.as_slice(), templates)?;
         }
-        self.add_survey(alloc, file.name, survey, templates)
+        let Survey {
+            warnings,
+            failing,
+            called,
+            ..
+        } = survey;
+        self.add_warnings(name, SUSPICIOUS, warnings)?;
+        self.add_warnings(name, ALWAYS_FAILS, failing)?;
+        self.add_calls(name, called.as_slice(), templates)
     }
 
     /// Adds an error where none tells what is wrong. Each check tells one, but no clause of theirs says so.
-    pub(crate) fn add_unseen(
-        &mut self,
-        alloc: Global,
-        question: &Question<'a>,
-    ) -> Result<(), AllocError>
+    pub(crate) fn add_unseen(&mut self, question: &Question<'a>) -> Result<()>
         ensures found { OnOk result (has_error self.new ≡ true) }
         ensures kept { OnOk result (has_error self.old ≡ true → self.new ≡ self.old) }
         ensures more { OnOk result (HasMore self.old self.new) }
@@ -450,34 +392,30 @@ impl<'a> Findings<'a> {
         if self.has_errors() {
             return Ok(());
         }
-        let entry = unseen_entry(alloc, question.first.unwrap_or(""))?;
-        self.add(entry)?;
+        let text = String::from_str(self.alloc, "may fail: it is not seen why")?;
+        let file = question.first.unwrap_or("");
+        self.add(Entry::error(file, (1, 1), MAY_FAIL, text))?;
         Ok(())
     }
 
     /// Adds what is wrong in a schema that is not read, and that it is, if nothing else tells it.
-    pub(crate) fn add_unread(
-        &mut self,
-        alloc: Global,
-        question: &Question<'a>,
-        schema: &Source<'a>,
-    ) -> Result<(), AllocError>
+    pub(crate) fn add_unread(&mut self, question: &Question<'a>, schema: &Source<'a>) -> Result<()>
         ensures found { OnOk result (has_error self.new ≡ true) }
         ensures more { OnOk result (HasMore self.old self.new) }
     {
-        self.add_data(alloc, schema)?;
-        self.add_unseen(alloc, question)?;
+        self.add_data(schema)?;
+        self.add_unseen(question)?;
         Ok(())
     }
 
     /// Adds what is wrong in the data, if there is some.
-    fn add_given(&mut self, alloc: Global, sources: &Sources<'a>) -> Result<(), AllocError>
+    fn add_given(&mut self, sources: &Sources<'a>) -> Result<()>
         ensures { OnOk result ((errors : List Finding) × AreOfData sources.now.«data» errors
             × (errors_in self.new ≡ errors_in self.old ++ errors)) }
     {
         match &sources.data {
             Some(data) => {
-                self.add_data(alloc, data)?;
+                self.add_data(data)?;
                 Ok(())
             }
             None => Ok(()),
@@ -485,7 +423,7 @@ impl<'a> Findings<'a> {
     }
 
     /// Adds what is wrong in data. Whether it has a value.
-    pub(crate) fn add_data(&mut self, alloc: Global, data: &Source<'a>) -> Result<bool, AllocError>
+    pub(crate) fn add_data(&mut self, data: &Source<'a>) -> Result<bool>
         ensures accepted { IfOk result (λ accepted. accepted ≡ true
             → (value : Value) × (data_of «data».now.bytes.items ≡ Ok value)) }
         ensures refused { IfOk result (λ accepted. accepted ≡ false
@@ -495,9 +433,9 @@ impl<'a> Findings<'a> {
         ensures matches_spec { OnOk result ((errors : List Finding) × AreOfData (Some «data».now) errors
             × (errors_in self.new ≡ errors_in self.old ++ errors)) }
     {
-        let report = check_data(alloc, data.bytes.as_slice())?;
+        let report = check_data(self.alloc, data.bytes.as_slice())?;
         let accepted = report.refused.is_none();
-        self.add_reason(alloc, data.name, report.refused, report.problems)?;
+        self.add_reason(data.name, report.refused, report.problems)?;
         self.warn_of_keys(data.name, report.warnings)?;
         Ok(accepted)
     }
@@ -505,17 +443,16 @@ impl<'a> Findings<'a> {
     /// Adds the places at which data is wrong that is refused for this reason, if it is.
     fn add_reason(
         &mut self,
-        alloc: Global,
         file: &'a str,
         reason: Option<DataReason>,
         problems: Vec<DataProblem>,
-    ) -> Result<(), AllocError>
+    ) -> Result<()>
         ensures { OnOk result ((errors : List Finding) × AreOfReason file.now reason errors
             × (self.new ≡ self.old ++ errors)) }
     {
         match reason {
             Some(reason) => {
-                self.add_data_problems(alloc, file, reason, problems)?;
+                self.add_data_problems(file, reason, problems)?;
                 Ok(())
             }
             None => Ok(()),
@@ -523,16 +460,12 @@ impl<'a> Findings<'a> {
     }
 
     /// Warns of the keys that are duplicated in data.
-    fn warn_of_keys(&mut self, file: &'a str, warnings: Vec<DataProblem>) -> Result<(), AllocError>
+    fn warn_of_keys(&mut self, file: &'a str, warnings: Vec<DataProblem>) -> Result<()>
         ensures { OnOk result (errors_in self.new ≡ errors_in self.old) }
     {
         for warning in warnings.into_iter() {
-            self.warn(
-                file,
-                (warning.line, warning.column),
-                KEY_GIVEN_TWICE,
-                warning.text,
-            )?;
+            let place = (warning.line, warning.column);
+            self.warn(file, place, KEY_GIVEN_TWICE, warning.text)?;
         }
         Ok(())
     }
@@ -540,17 +473,16 @@ impl<'a> Findings<'a> {
     /// Adds the places at which data is wrong that is refused for this reason; one, where none is known.
     fn add_data_problems(
         &mut self,
-        alloc: Global,
         file: &'a str,
         reason: DataReason,
         problems: Vec<DataProblem>,
-    ) -> Result<(), AllocError>
+    ) -> Result<()>
         ensures { OnOk result (AddsOfReason file.now reason self.old self.new) }
     {
         let mut problems = problems.into_iter();
-        self.add_data_problem(alloc, file, reason, problems.next())?;
+        self.add_data_problem(file, reason, problems.next())?;
         for problem in problems {
-            self.add_data_problem(alloc, file, reason, Some(problem))?;
+            self.add_data_problem(file, reason, Some(problem))?;
         }
         Ok(())
     }
@@ -558,91 +490,20 @@ impl<'a> Findings<'a> {
     /// Adds that data is wrong, at a place if one is known.
     fn add_data_problem(
         &mut self,
-        alloc: Global,
         file: &'a str,
         reason: DataReason,
         problem: Option<DataProblem>,
-    ) -> Result<(), AllocError>
+    ) -> Result<()>
         ensures { OnOk result ((f : Finding) × IsOfReason file.now reason f × (self.new ≡ self.old ++ f ∷ [])) }
     {
         let (place, detail) = match &problem {
             Some(found) => ((found.line, found.column), found.text.as_str()),
             None => ((1, 1), ""),
         };
-        let entry = data_entry(alloc, file, reason, place, detail)?;
-        self.add(entry)?;
+        let text = reason_text(self.alloc, reason.words(), detail)?;
+        self.add(Entry::error(file, place, data_rule_of(reason), text))?;
         Ok(())
     }
-}
-
-/// Something wrong in data.
-fn data_entry<'a>(
-    alloc: Global,
-    file: &'a str,
-    reason: DataReason,
-    place: (u64, u64),
-    detail: &str,
-) -> Result<Entry<'a>, AllocError>
-    ensures { IfOk result (λ entry. IsOfReason file.now reason entry) }
-{
-    let text = reason_text(alloc, reason.words(), detail)?;
-    Ok(Entry {
-        file,
-        level: Level::Error,
-        line: place.0,
-        column: place.1,
-        rule: data_rule_of(reason),
-        text,
-        note: None,
-    })
-}
-
-/// That so many more errors are in a file.
-fn left_entry<'a>(alloc: Global, file: &'a str, left: usize) -> Result<Entry<'a>, AllocError>
-    ensures { IfOk result (λ entry. entry ≡ left_error file.now left) }
-{
-    Ok(Entry {
-        file,
-        level: Level::Error,
-        line: 1,
-        column: 1,
-        rule: TOO_MANY_ERRORS,
-        text: left_text(alloc, left)?,
-        note: None,
-    })
-}
-
-/// Something wrong in a file.
-fn problem_entry<'a>(
-    alloc: Global,
-    file: &'a str,
-    problem: &Problem,
-) -> Result<Entry<'a>, AllocError>
-    ensures { IfOk result (λ entry. entry ≡ error_of file.now problem.now) }
-{
-    let refused = &problem.refused;
-    Ok(Entry {
-        file,
-        level: Level::Error,
-        line: refused.line,
-        column: refused.column,
-        rule: rule_of(refused.kind),
-        text: problem_text(alloc, problem)?,
-        note: None,
-    })
-}
-
-/// The message about a template of this name.
-fn about(alloc: Global, before: &str, name: &[u8], after: &str) -> Result<String, AllocError> {
-    let said = Sentence::new(alloc).say(before).say("\"");
-    say_name(said, name).say("\"").say(after).finish()
-}
-
-/// Whether one of these is an error.
-fn has_error(entries: &[Entry<'_>]) -> bool
-    ensures { result ≡ has_error entries.now }
-{
-    entries.iter().any(|entry| entry.is_error())
 }
 
 /// Whether one of these says the same of the same place.
@@ -650,21 +511,6 @@ fn has_same(entries: &[Entry<'_>], entry: &Entry<'_>) -> bool
     ensures { result ≡ list_any (λ other. is_same other entry.now) entries.now }
 {
     entries.iter().any(|other| other.is_same(entry))
-}
-
-/// That it is not seen that nothing is wrong.
-fn unseen_entry<'a>(alloc: Global, file: &'a str) -> Result<Entry<'a>, AllocError>
-    ensures { IfOk result (λ entry. is_error entry.level ≡ true) }
-{
-    Ok(Entry {
-        file,
-        level: Level::Error,
-        line: 1,
-        column: 1,
-        rule: MAY_FAIL,
-        text: String::from_str(alloc, "may fail: it is not seen why")?,
-        note: None,
-    })
 }
 
 /// What is found in template files, in the order of the files, in the schema, and then in data: errors, and what is
@@ -694,7 +540,7 @@ pub fn findings_of<'a>(
     ensures values { IfOk result (λ found. has_error found ≡ false → IsValued question.now sources.now found) }
 {
     let mut findings = findings_in(alloc, hash, question, sources)?;
-    add_output(alloc, hash, &mut findings, question, sources)?;
+    add_output(hash, &mut findings, question, sources)?;
     Ok(findings)
 }
 
@@ -704,7 +550,7 @@ fn findings_in<'a>(
     hash: NameHash,
     question: &Question<'a>,
     sources: &Sources<'a>,
-) -> Result<Findings<'a>, AllocError>
+) -> Result<Findings<'a>>
     ensures safe { IfOk result (λ found. has_error found ≡ false → IsSafe question.now sources.now) }
     ensures matches_spec { IfOk result (λ found. AreOfSources question.now sources.now (errors_in found)) }
     ensures values { IfOk result (λ found. has_error found ≡ false → IsValued question.now sources.now found) }
@@ -712,19 +558,15 @@ fn findings_in<'a>(
     let mut findings = Findings::new(alloc);
     let mut set = Set::with_hash(alloc, hash);
     let files = sources.templates.as_slice();
-    findings.add_files(alloc, hash, question, files, &mut set)?;
-    add_schema(alloc, &mut findings, &set, question, sources)?;
-    findings.add_given(alloc, sources)?;
-    add_values(alloc, &mut findings, &set, question, sources)?;
+    findings.add_files(hash, question, files, &mut set)?;
+    add_schema(&mut findings, &set, question, sources)?;
+    findings.add_given(sources)?;
+    add_values(&mut findings, &set, question, sources)?;
     Ok(findings)
 }
 
 /// The surveys of files.
-fn survey_all<'f>(
-    alloc: Global,
-    hash: NameHash,
-    files: &'f [Source<'_>],
-) -> Result<Vec<Survey<'f>>, AllocError> {
+fn surveyed<'f>(alloc: Global, hash: NameHash, files: &'f [Source<'_>]) -> Result<Vec<Survey<'f>>> {
     let mut surveys = Vec::new(alloc);
     for file in files {
         surveys.push(survey_file(alloc, hash, file.bytes.as_slice())?)?;
@@ -738,7 +580,7 @@ fn templates_in<'f>(
     hash: NameHash,
     files: &'f [Source<'_>],
     surveys: &[Survey<'f>],
-) -> Result<Templates<'f>, AllocError> {
+) -> Result<Templates<'f>> {
     let mut templates = Templates {
         defined: IndexSet::with_hasher(alloc, hash),
         called: IndexSet::with_hasher(alloc, hash),

@@ -1,10 +1,11 @@
 //! Whether the data conforms to the schema, and where it does not.
-ghost use Rattle.std.specs.Prelude.{◌≡◌, IfOk, OnOk, false, true};
+ghost use Rattle.std.specs.Prelude.{◌≡◌, OnOk, false, true};
 ghost use Rattle.tmpl_report.specs.Finding.{has_error};
-ghost use Rattle.tmpl_report.specs.Rendered.{IsHeldTo, IsInside, IsUnfit, Mentions};
+ghost use Rattle.tmpl_report.specs.Rendered.{IsHeldTo, IsInside, Mentions};
 ghost use Rattle.tmpl_report.specs.computed.Entries.{AddsUnfit};
 
-use crate::entry::{Entry, Level};
+use crate::Result;
+use crate::entry::Entry;
 use crate::findings::Findings;
 use crate::reasons::{line_of, position_of};
 use crate::rule::DOES_NOT_CONFORM;
@@ -21,36 +22,36 @@ const MOST: usize = 100;
 
 /// Adds where the data does not conform to the schema, if both are read.
 pub(crate) fn add_held<'a>(
-    alloc: Global,
     findings: &mut Findings<'a>,
     schema: &Source<'a>,
     data: &Source<'a>,
-) -> Result<(), AllocError>
+) -> Result<()>
     ensures held { OnOk result (has_error findings.new ≡ false → IsHeldTo schema.now «data».now) }
     ensures told { OnOk result (AddsUnfit findings.old findings.new) }
 {
+    let alloc = findings.alloc;
     let Some(document) = read_document(alloc, schema.bytes.as_slice())? else {
         return Ok(());
     };
     let value = match Value::from_slice(alloc, data.bytes.as_slice()) {
         Ok(value) => value,
         Err(error) if error.is_memory() => return Err(AllocError),
-        Err(_) => return add_unheld(alloc, findings, data),
+        Err(_) => return add_unheld(findings, data),
     };
     match read_schema(alloc, &document) {
         Ok(_) => {}
         Err(SchemaFault::OutOfMemory) => return Err(AllocError),
-        Err(SchemaFault::Refused(_)) => return add_unheld(alloc, findings, data),
+        Err(SchemaFault::Refused(_)) => return add_unheld(findings, data),
     }
     if conforms_to(alloc, &document, &value) {
         return Ok(());
     }
     let found = violations_of(alloc, &document, &value, MOST)?;
-    add_violations(alloc, findings, schema, data, found.as_slice())?;
+    add_violations(findings, schema, data, found.as_slice())?;
     if has_text_rules(schema.bytes.as_slice()) {
         return Ok(());
     }
-    add_unheld(alloc, findings, data)
+    add_unheld(findings, data)
 }
 
 /// Whether a schema asks for more of strings than is looked at.
@@ -74,82 +75,42 @@ fn mentions(bytes: &[u8], text: &[u8]) -> bool
 
 /// Adds places at which the data does not conform to the schema.
 fn add_violations<'a>(
-    alloc: Global,
     findings: &mut Findings<'a>,
     schema: &Source<'a>,
     data: &Source<'a>,
     violations: &[Violation],
-) -> Result<(), AllocError>
+) -> Result<()>
     ensures { OnOk result (AddsUnfit findings.old findings.new) }
 {
     for violation in violations {
-        let entry = violation_entry(alloc, schema, data, violation)?;
-        findings.add(entry)?;
+        let place = position_of(data.bytes.as_slice(), violation.path.as_slice());
+        let text = violation_text(findings.alloc, schema, violation)?;
+        findings.add(Entry::error(data.name, place, DOES_NOT_CONFORM, text))?;
     }
     Ok(())
 }
 
 /// Adds that it is not seen that the data conforms, unless there are errors.
-fn add_unheld<'a>(
-    alloc: Global,
-    findings: &mut Findings<'a>,
-    data: &Source<'a>,
-) -> Result<(), AllocError>
+fn add_unheld<'a>(findings: &mut Findings<'a>, data: &Source<'a>) -> Result<()>
     ensures found { OnOk result (has_error findings.new ≡ true) }
     ensures told { OnOk result (AddsUnfit findings.old findings.new) }
 {
     if findings.has_errors() {
         return Ok(());
     }
-    let entry = Entry {
-        file: data.name,
-        level: Level::Error,
-        line: 1,
-        column: 1,
-        rule: DOES_NOT_CONFORM,
-        text: String::from_str(alloc, "does not conform: it is not seen that it does")?,
-        note: None,
-    };
-    findings.add(entry)
-}
-
-/// A place at which the data does not conform to the schema.
-fn violation_entry<'a>(
-    alloc: Global,
-    schema: &Source<'a>,
-    data: &Source<'a>,
-    violation: &Violation,
-) -> Result<Entry<'a>, AllocError>
-    ensures { IfOk result (λ entry. IsUnfit entry) }
-{
-    let (line, column) = position_of(data.bytes.as_slice(), violation.path.as_slice());
-    Ok(Entry {
-        file: data.name,
-        level: Level::Error,
-        line,
-        column,
-        rule: DOES_NOT_CONFORM,
-        text: violation_text(alloc, schema, violation)?,
-        note: None,
-    })
+    let text = "does not conform: it is not seen that it does";
+    let text = String::from_str(findings.alloc, text)?;
+    findings.add(Entry::error(data.name, (1, 1), DOES_NOT_CONFORM, text))
 }
 
 /// The message about a place at which the data does not conform to the schema.
-fn violation_text(
-    alloc: Global,
-    schema: &Source<'_>,
-    violation: &Violation,
-) -> Result<String, AllocError> {
+fn violation_text(alloc: Global, schema: &Source<'_>, violation: &Violation) -> Result<String> {
     let line = line_of(alloc, schema.bytes.as_slice(), violation.keyword.as_str())?;
+    let is_whole = violation.place.is_empty();
     let said = Sentence::new(alloc)
         .say("does not conform: ")
-        .say(violation.place.as_str());
-    let said = if violation.place.is_empty() {
-        said
-    } else {
-        said.say(": ")
-    };
-    let said = said
+        .say(violation.place.as_str())
+        .say(if is_whole { "" } else { ": " })
         .say(violation.text.as_str())
         .say(" at ")
         .say(schema.name);

@@ -7,6 +7,7 @@ ghost use Rattle.tmpl_json_schema.specs.Document.{ConformsTo};
 ghost use Rattle.tmpl_report.specs.Inferred.{IsInferred, IsSchemaInferred};
 ghost use Rattle.tmpl_report.specs.computed.Inferred.{AddsSample};
 
+use crate::Result;
 use crate::findings::Findings;
 use crate::source::Source;
 use serde_json::Value;
@@ -44,7 +45,7 @@ pub fn infer_from<'a>(
 }
 
 /// The text of a schema of samples.
-fn schema_text(alloc: Global, samples: &[Value], paths: &[&str]) -> Result<String, AllocError>
+fn schema_text(alloc: Global, samples: &[Value], paths: &[&str]) -> Result<String>
     ensures conform { IfOk result (λ text. AllByRecursion
         (λ sample. IfSome (tree_value (view sample)) (ConformsTo (string_bytes text))) samples.now) }
     ensures inferred { IfOk result (λ text. IsSchemaInferred (string_bytes text)) }
@@ -58,7 +59,7 @@ fn schema_text(alloc: Global, samples: &[Value], paths: &[&str]) -> Result<Strin
 }
 
 /// References to these values.
-fn references_to<'s>(alloc: Global, values: &'s [Value]) -> Result<Vec<&'s Value>, AllocError>
+fn references_to<'s>(alloc: Global, values: &'s [Value]) -> Result<Vec<&'s Value>>
     ensures { IfOk result (λ lent. map (λ value. value.now) lent.items ≡ values.now) }
 {
     values.iter().collect(alloc)
@@ -70,17 +71,14 @@ fn add_sample<'a>(
     file: &Source<'a>,
     findings: &mut Findings<'a>,
     samples: &mut Vec<Value>,
-) -> Result<(), AllocError>
+) -> Result<()>
     ensures { OnOk result (AddsSample file.now findings.old findings.new samples.old.items samples.new.items) }
 {
-    if !findings.add_data(alloc, file)? {
+    if !findings.add_data(file)? {
         return Ok(());
     }
-    match read_document(alloc, file.bytes.as_slice())? {
-        Some(value) => {
-            samples.push(value)?;
-            Ok(())
-        }
-        None => Ok(()),
+    if let Some(value) = read_document(alloc, file.bytes.as_slice())? {
+        samples.push(value)?;
     }
+    Ok(())
 }

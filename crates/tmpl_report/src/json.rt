@@ -6,13 +6,14 @@ ghost use Rattle.serde_json.specs.Data.{string};
 ghost use Rattle.tmpl_hints.specs.Sentence.{Adds};
 ghost use Rattle.tmpl_report.specs.Json.{item_of, json_of, lines_between};
 
+use crate::Result;
 use crate::entry::Entry;
 use serde_json::Value;
-use std::alloc::{AllocError, Global};
+use std::alloc::Global;
 use tmpl_hints::Sentence;
 
 /// An object with a list of what is found.
-pub(crate) fn document(alloc: Global, entries: &[Entry<'_>]) -> Result<String, AllocError>
+pub(crate) fn document(alloc: Global, entries: &[Entry<'_>]) -> Result<String>
     ensures { IfOk result (λ t. string_bytes t ≡ json_of entries.now) }
 {
     let said = Sentence::new(alloc).say("{\"problems\":[");
@@ -20,7 +21,7 @@ pub(crate) fn document(alloc: Global, entries: &[Entry<'_>]) -> Result<String, A
 }
 
 /// Says what is found, each as an object on a line of its own.
-fn say_items(alloc: Global, said: Sentence, entries: &[Entry<'_>]) -> Result<Sentence, AllocError>
+fn say_items(alloc: Global, said: Sentence, entries: &[Entry<'_>]) -> Result<Sentence>
     ensures { IfOk result (λ s. Adds said s (lines_between (map (λ f. compact_text (item_of f)) entries.now))) }
 {
     let mut said = said;
@@ -38,7 +39,7 @@ pub(crate) fn line_before(index: usize) -> &'static str
 }
 
 /// Says what is found as an object.
-fn say_item(alloc: Global, said: Sentence, entry: &Entry<'_>) -> Result<Sentence, AllocError>
+fn say_item(alloc: Global, said: Sentence, entry: &Entry<'_>) -> Result<Sentence>
     ensures { IfOk result (λ s. Adds said s (compact_text (item_of entry.now))) }
 {
     let said = say_quoted(alloc, said.say("{\"file\":"), entry.file)?
@@ -55,7 +56,7 @@ fn say_item(alloc: Global, said: Sentence, entry: &Entry<'_>) -> Result<Sentence
 }
 
 /// Writes the note, if there is one, as one more member.
-fn say_note(alloc: Global, said: Sentence, entry: &Entry<'_>) -> Result<Sentence, AllocError>
+fn say_note(alloc: Global, said: Sentence, entry: &Entry<'_>) -> Result<Sentence>
     ensures { IfOk result (λ s. Adds said s (option_map_or (λ note. codes ",\"note\":" ++ compact_text (string note))
         entry.now.note [])) }
 {
@@ -66,7 +67,7 @@ fn say_note(alloc: Global, said: Sentence, entry: &Entry<'_>) -> Result<Sentence
 }
 
 /// Says a text as JSON.
-pub(crate) fn say_quoted(alloc: Global, said: Sentence, text: &str) -> Result<Sentence, AllocError>
+pub(crate) fn say_quoted(alloc: Global, said: Sentence, text: &str) -> Result<Sentence>
     ensures { IfOk result (λ s. Adds said s (compact_text (string text.now))) }
 {
     let value = Value::String(String::from_str(alloc, text)?);

@@ -27,3 +27,6 @@ pub use laws::always_fails;
 pub use reasons::{Reason, Why, position_of, reasons_of};
 pub use samples::{Failure, failure_refutes, failures_of};
 pub use source::{Question, Source, Sources};
+
+/// What a function gives whose only error is that memory ran out, unless it names another.
+type Result<T, E = std::alloc::AllocError> = std::result::Result<T, E>;

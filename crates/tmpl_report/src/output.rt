@@ -2,19 +2,21 @@
 ghost use Rattle.std.specs.Prelude.{OnOk};
 ghost use Rattle.tmpl_report.specs.computed.Entries.{AddsBroken, AddsOfOutput};
 
-mod data;
 mod message;
 mod render;
 mod schema;
 mod spread;
 mod strings;
 
+use crate::Result;
 use crate::findings::Findings;
-use crate::output::data::add_over_data;
+use crate::output::message::broken_entry;
+use crate::output::render::Writer;
 use crate::output::schema::add_over_schema;
 use crate::output::spread::add_file;
 use crate::source::{Question, Source, Sources, Task};
 use std::alloc::{AllocError, Global};
+use tmpl_engine::{Data, DataFault, Renderer};
 use tmpl_formats::Format;
 use tmpl_json_schema::read_document;
 use tmpl_syntax::{NameHash, Set};
@@ -22,12 +24,11 @@ use tmpl_syntax::{NameHash, Set};
 /// Adds where the output ceases to be of the format that is asked for, if one is and nothing else is wrong: over the data
 /// that is given, or else over data of the schema that are found.
 pub(crate) fn add_output<'a>(
-    alloc: Global,
     hash: NameHash,
     findings: &mut Findings<'a>,
     question: &Question<'a>,
     sources: &Sources<'a>,
-) -> Result<(), AllocError>
+) -> Result<()>
     ensures { OnOk result (AddsOfOutput question.now findings.old findings.new) }
 {
     let Some(word) = question.writes else {
@@ -37,23 +38,23 @@ pub(crate) fn add_output<'a>(
         return Ok(());
     }
     match question.first {
-        Some(first) => add_written(alloc, hash, findings, question, sources, word, first),
+        Some(first) => add_written(hash, findings, question, sources, word, first),
         None => Ok(()),
     }
 }
 
 /// The same where a format and files are given, and nothing is wrong.
 fn add_written<'a>(
-    alloc: Global,
     hash: NameHash,
     findings: &mut Findings<'a>,
     question: &Question<'a>,
     sources: &Sources<'a>,
     word: &str,
     first: &'a str,
-) -> Result<(), AllocError>
+) -> Result<()>
     ensures { OnOk result (AddsBroken findings.old findings.new) }
 {
+    let alloc = findings.alloc;
     let Some(format) = Format::named(alloc, word.as_bytes())? else {
         return Ok(());
     };
@@ -69,28 +70,40 @@ fn add_written<'a>(
     };
     match (&sources.data, &sources.schema) {
         (Some(data), _) => add_over_data(&task, findings, data, &format),
-        (None, Some(schema)) => add_of_schema(&task, findings, schema, &format),
+        (None, Some(schema)) => match read_document(alloc, schema.bytes.as_slice())? {
+            Some(document) => add_over_schema(&task, findings, &document, &format),
+            None => Ok(()),
+        },
         (None, None) => Ok(()),
     }
 }
 
-/// Adds where the output is not of the format over data of the schema that are found.
-fn add_of_schema<'t, 'a>(
+/// Adds where the output over the data ceases to be of the format.
+fn add_over_data<'t, 'a>(
     task: &Task<'t, 'a>,
     findings: &mut Findings<'a>,
-    schema: &Source<'a>,
+    data: &Source<'a>,
     format: &'t Format,
-) -> Result<(), AllocError>
+) -> Result<()>
     ensures { OnOk result (AddsBroken findings.old findings.new) }
 {
-    match read_document(task.alloc, schema.bytes.as_slice())? {
-        Some(document) => add_over_schema(task, findings, &document, format),
-        None => Ok(()),
-    }
+    let tree = match Data::from_json(task.alloc, data.bytes.as_slice()) {
+        Ok(tree) => tree,
+        Err(DataFault::OutOfMemory) => return Err(AllocError),
+        Err(_) => return Ok(()),
+    };
+    let renderer = Renderer::new(task.alloc, task.set)?;
+    let writer = Writer::new(task, &renderer, format);
+    let Some(broken) = writer.broken_over(&tree)? else {
+        return Ok(());
+    };
+    let found = writer.found(&tree, &broken, "writes no ", None)?;
+    let entry = broken_entry(task, found);
+    findings.add(entry)
 }
 
 /// The templates of the files; none where one is not accepted, or is missing.
-fn set_of(alloc: Global, hash: NameHash, sources: &Sources<'_>) -> Result<Option<Set>, AllocError> {
+fn set_of(alloc: Global, hash: NameHash, sources: &Sources<'_>) -> Result<Option<Set>> {
     if sources.is_short {
         return Ok(None);
     }

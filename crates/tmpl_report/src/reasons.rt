@@ -5,6 +5,7 @@ mod position;
 mod reason;
 mod walk;
 
+pub(crate) use origin::below;
 pub(crate) use position::line_of;
 pub use position::position_of;
 pub use reason::{Reason, Why, reasons_of};

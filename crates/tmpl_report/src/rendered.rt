@@ -1,18 +1,19 @@
 //! A run of the template over the data, within limits.
 ghost use Rattle.std.specs.Prelude.{◌<◌, ◌^◌, ◌-◌, ◌≡◌, IfOk, if◌then◌else◌};
-ghost use Rattle.tmpl_meaning.specs.View.{cause_of, fault_seen};
+ghost use Rattle.tmpl_meaning.specs.View.{fault_seen};
 ghost use Rattle.tmpl_values.specs.View.{value_of};
 ghost use Rattle.tmpl_engine.specs.View.{templates_in};
 ghost use Rattle.tmpl_report.specs.Rendered.{is_limit, run_rules};
 ghost use Rattle.tmpl_report.specs.computed.Ended.{IsEnd};
 
+use crate::Result;
 use std::alloc::{AllocError, Global};
 use tmpl_engine::{Data, MissingKey, Options, RenderError, Renderer, RunFault, RunFaultKind, Sink};
 
 /// The limits of the run.
-const STEPS: u64 = 1_000_000;
+pub(crate) const STEPS: u64 = 1_000_000;
 
-const DEPTH: u32 = 500;
+pub(crate) const DEPTH: u32 = 500;
 
 /// The most bytes that it writes.
 pub(crate) const MOST_RENDERED: usize = 16_000_000;
@@ -28,7 +29,7 @@ pub(crate) enum End<'a> {
 }
 
 /// The template that is rendered, and the mode for missing keys.
-#[derive(Clone, Copy)]
+#[derive(Drop)]
 pub(crate) struct Render<'r> {
     pub(crate) renderer: &'r Renderer,
     pub(crate) name: &'r [u8],
@@ -42,7 +43,7 @@ impl<'r> Render<'r> {
         alloc: Global,
         tree: &'a Data,
         out: &mut S,
-    ) -> Result<End<'a>, AllocError>
+    ) -> Result<End<'a>>
         requires { (S.so_far out.old).failures < 2 ^ 64 - 1 }
         ensures { IfOk result (IsEnd (run_rules self.now.mode) (templates_in self.now.renderer.now) self.now.name.now
             (value_of tree.now)) }
@@ -69,19 +70,13 @@ impl<'r> Render<'r> {
 fn end_at<'a>(fault: RunFault<'a>) -> End<'a>
     ensures { result ≡ (if is_limit (fault_seen fault.entry).cause then End.Limit else End.Fault fault.entry) }
 {
-    if is_limit(&fault.kind) {
+    let is_limit = matches!(
+        &fault.kind,
+        RunFaultKind::StepsSpent(_) | RunFaultKind::CallsTooDeep(_)
+    );
+    if is_limit {
         End::Limit
     } else {
         End::Fault(fault)
     }
-}
-
-/// Whether a fault is that a limit was met.
-fn is_limit(kind: &RunFaultKind<'_>) -> bool
-    ensures { result ≡ is_limit (cause_of kind.now) }
-{
-    matches!(
-        kind,
-        RunFaultKind::StepsSpent(_) | RunFaultKind::CallsTooDeep(_)
-    )
 }

@@ -9,3 +9,4 @@ pub use failing::Failure;
 pub(crate) use failing::{Nowhere, said_of};
 pub use laws::failure_refutes;
 pub use search::failures_of;
+pub(crate) use smaller::is_counted_out;

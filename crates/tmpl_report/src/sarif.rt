@@ -7,11 +7,12 @@ ghost use Rattle.tmpl_hints.specs.Sentence.{Adds};
 ghost use Rattle.tmpl_report.specs.Json.{lines_between};
 ghost use Rattle.tmpl_report.specs.Sarif.{descriptor_of, locations_of, log_of, message_of, place_of, result_of, uri_of};
 
+use crate::Result;
 use crate::entry::Entry;
 use crate::json::{line_before, say_quoted};
 use crate::rule::{Rule, all_rules};
 use percent_encoding::{AsciiSet, NON_ALPHANUMERIC, ascii_set, utf8_percent_encode};
-use std::alloc::{AllocError, Global};
+use std::alloc::Global;
 use tmpl_hints::Sentence;
 
 /// What stands before the rules of the one tool.
@@ -32,7 +33,7 @@ const ESCAPED_IN_PATHS: AsciiSet = ascii_set!(
 );
 
 /// A log of one run.
-pub(crate) fn document(alloc: Global, entries: &[Entry<'_>]) -> Result<String, AllocError>
+pub(crate) fn document(alloc: Global, entries: &[Entry<'_>]) -> Result<String>
     ensures { IfOk result (λ t. string_bytes t ≡ log_of entries.now) }
 {
     let said = say_rules(alloc, Sentence::new(alloc).say(BEGINNING), &all_rules())?;
@@ -42,7 +43,7 @@ pub(crate) fn document(alloc: Global, entries: &[Entry<'_>]) -> Result<String, A
 }
 
 /// Says rules, each on a line of its own.
-fn say_rules(alloc: Global, said: Sentence, rules: &[Rule]) -> Result<Sentence, AllocError>
+fn say_rules(alloc: Global, said: Sentence, rules: &[Rule]) -> Result<Sentence>
     ensures { IfOk result (λ s. Adds said s
         (lines_between (map (λ rule. compact_text (descriptor_of (rule.id.now, rule.text.now))) rules.now))) }
 {
@@ -54,7 +55,7 @@ fn say_rules(alloc: Global, said: Sentence, rules: &[Rule]) -> Result<Sentence, 
 }
 
 /// Says a rule.
-fn say_rule(alloc: Global, said: Sentence, rule: &Rule) -> Result<Sentence, AllocError>
+fn say_rule(alloc: Global, said: Sentence, rule: &Rule) -> Result<Sentence>
     ensures { IfOk result (λ s. Adds said s (compact_text (descriptor_of (rule.now.id.now, rule.now.text.now)))) }
 {
     let said = say_quoted(alloc, said.say("{\"id\":"), rule.id)?;
@@ -62,7 +63,7 @@ fn say_rule(alloc: Global, said: Sentence, rule: &Rule) -> Result<Sentence, Allo
 }
 
 /// Says what is found, each as a result on a line of its own.
-fn say_results(alloc: Global, said: Sentence, entries: &[Entry<'_>]) -> Result<Sentence, AllocError>
+fn say_results(alloc: Global, said: Sentence, entries: &[Entry<'_>]) -> Result<Sentence>
     ensures { IfOk result (λ s. Adds said s (lines_between (map (λ f. compact_text (result_of f)) entries.now))) }
 {
     let mut said = said;
@@ -73,7 +74,7 @@ fn say_results(alloc: Global, said: Sentence, entries: &[Entry<'_>]) -> Result<S
 }
 
 /// Says what is found as a result.
-fn say_result(alloc: Global, said: Sentence, entry: &Entry<'_>) -> Result<Sentence, AllocError>
+fn say_result(alloc: Global, said: Sentence, entry: &Entry<'_>) -> Result<Sentence>
     ensures { IfOk result (λ s. Adds said s (compact_text (result_of entry.now))) }
 {
     let said = say_quoted(alloc, said.say("{\"ruleId\":"), entry.rule.id)?
@@ -86,14 +87,14 @@ fn say_result(alloc: Global, said: Sentence, entry: &Entry<'_>) -> Result<Senten
 }
 
 /// Says a text as SARIF has it.
-fn say_message(alloc: Global, said: Sentence, text: &str) -> Result<Sentence, AllocError>
+fn say_message(alloc: Global, said: Sentence, text: &str) -> Result<Sentence>
     ensures { IfOk result (λ s. Adds said s (compact_text (message_of text.now))) }
 {
     Ok(say_quoted(alloc, said.say("{\"text\":"), text)?.say("}"))
 }
 
 /// Writes the note, if there is one, as one more property.
-fn say_note(alloc: Global, said: Sentence, entry: &Entry<'_>) -> Result<Sentence, AllocError>
+fn say_note(alloc: Global, said: Sentence, entry: &Entry<'_>) -> Result<Sentence>
     ensures { IfOk result (λ s. Adds said s (option_map_or (λ note. codes ",\"relatedLocations\":"
         ++ compact_text (locations_of entry.now ((codes "message", message_of note) ∷ []))) entry.now.note [])) }
 {
@@ -109,7 +110,7 @@ fn say_note(alloc: Global, said: Sentence, entry: &Entry<'_>) -> Result<Sentence
 }
 
 /// Says where it is, as the one location of a list.
-fn say_here(alloc: Global, said: Sentence, entry: &Entry<'_>) -> Result<Sentence, AllocError>
+fn say_here(alloc: Global, said: Sentence, entry: &Entry<'_>) -> Result<Sentence>
     ensures { IfOk result (λ s. Adds said s (compact_text (locations_of entry.now []))) }
 {
     let said = say_place(alloc, said.say("[{\"physicalLocation\":"), entry)?;
@@ -117,12 +118,7 @@ fn say_here(alloc: Global, said: Sentence, entry: &Entry<'_>) -> Result<Sentence
 }
 
 /// The same, with a text.
-fn say_related(
-    alloc: Global,
-    said: Sentence,
-    entry: &Entry<'_>,
-    text: &str,
-) -> Result<Sentence, AllocError>
+fn say_related(alloc: Global, said: Sentence, entry: &Entry<'_>, text: &str) -> Result<Sentence>
     ensures { IfOk result (λ s. Adds said s
         (compact_text (locations_of entry.now ((codes "message", message_of text.now) ∷ [])))) }
 {
@@ -131,7 +127,7 @@ fn say_related(
 }
 
 /// Says where it is.
-fn say_place(alloc: Global, said: Sentence, entry: &Entry<'_>) -> Result<Sentence, AllocError>
+fn say_place(alloc: Global, said: Sentence, entry: &Entry<'_>) -> Result<Sentence>
     ensures { IfOk result (λ s. Adds said s (compact_text (place_of entry.now))) }
 {
     let uri = uri_of(alloc, entry.file)?;
@@ -149,7 +145,7 @@ fn say_place(alloc: Global, said: Sentence, entry: &Entry<'_>) -> Result<Sentenc
 }
 
 /// The URI of a file: a relative one, of a path from the root on one of the scheme `file`.
-fn uri_of(alloc: Global, file: &str) -> Result<String, AllocError>
+fn uri_of(alloc: Global, file: &str) -> Result<String>
     ensures { IfOk result (λ t. string_bytes t ≡ uri_of file.now) }
 {
     let mut uri = String::from_str(alloc, scheme_of(file))?;

@@ -6,9 +6,10 @@ ghost use Rattle.tmpl_report.specs.Finding.{Finding, has_error};
 ghost use Rattle.tmpl_report.specs.Safe.{IsSafeOver};
 ghost use Rattle.tmpl_report.specs.computed.Entries.{HasMore};
 
-use crate::entry::{Entry, Level};
+use crate::Result;
+use crate::entry::Entry;
 use crate::findings::Findings;
-use crate::reasons::{Reason, Why, position_of, reasons_of};
+use crate::reasons::{Reason, Why, below, position_of, reasons_of};
 use crate::rule::{MAY_FAIL, SCHEMA_NOT_UNDERSTOOD, SCHEMA_WITHOUT_VALUES};
 use crate::samples::{Failure, failures_of};
 use crate::source::{Question, Source, Sources, Task};
@@ -27,12 +28,11 @@ use tmpl_values::Bytes;
 
 /// Adds the findings about the template that is asked for over data of the schema, once the files are accepted.
 pub(crate) fn add_schema<'a>(
-    alloc: Global,
     findings: &mut Findings<'a>,
     set: &Set,
     question: &Question<'a>,
     sources: &Sources<'a>,
-) -> Result<(), AllocError>
+) -> Result<()>
     ensures safe { OnOk result (has_error findings.new ≡ false → sources.now.is_short ≡ false
         → IsSafeOver question.now sources.now (set_view set.now)) }
     ensures matches_spec { OnOk result ((errors : List Finding) × MayBeOfSchema sources.now.schema findings.old errors
@@ -44,19 +44,18 @@ pub(crate) fn add_schema<'a>(
     if findings.has_errors() {
         return Ok(());
     }
-    add_judged(alloc, findings, set, question, sources)?;
+    add_judged(findings, set, question, sources)?;
     Ok(())
 }
 
 /// The same, whether or not a file has an error.
 #[tactic(auto, using(crate::proofs::ErrorLemmas::more))]
 fn add_judged<'a>(
-    alloc: Global,
     findings: &mut Findings<'a>,
     set: &Set,
     question: &Question<'a>,
     sources: &Sources<'a>,
-) -> Result<(), AllocError>
+) -> Result<()>
     ensures safe { OnOk result (has_error findings.new ≡ false → sources.now.is_short ≡ false
         → IsSafeOver question.now sources.now (set_view set.now)) }
     ensures more { OnOk result (HasMore findings.old findings.new) }
@@ -70,6 +69,7 @@ fn add_judged<'a>(
     if sources.is_short {
         return Ok(());
     }
+    let alloc = findings.alloc;
     let task = Task {
         alloc,
         set,
@@ -80,58 +80,32 @@ fn add_judged<'a>(
     let stops = names_of(alloc, question.stops.as_slice())?;
     let stops = stops.as_slice();
     let Some(document) = read_document(alloc, schema.bytes.as_slice())? else {
-        findings.add_unread(alloc, question, schema)?;
+        findings.add_unread(question, schema)?;
         return Ok(());
     };
     match check_document(alloc, set, task.name(), &document, question.mode, stops) {
-        Ok(()) => warn_of_schema(alloc, findings, schema, &document),
+        Ok(()) => warn_of_schema(findings, schema, &document),
         Err(fault) => {
             add_fault(&task, &mut *findings, schema, &document, stops, fault)?;
-            findings.add_unseen(alloc, question)?;
+            findings.add_unseen(question)?;
             Ok(())
         }
     }
 }
 
-/// Warns of what is suspicious in a schema.
+/// Warns of what is suspicious in a schema: a part to which no value conforms, if one is found, and what is not used.
 fn warn_of_schema<'a>(
-    alloc: Global,
     findings: &mut Findings<'a>,
     schema: &Source<'a>,
     document: &Value,
-) -> Result<(), AllocError>
+) -> Result<()>
     ensures { OnOk result (errors_in findings.new ≡ errors_in findings.old) }
 {
-    warn_without_values(alloc, findings, schema, document)?;
-    warn_of_keywords(alloc, findings, schema, document)
-}
-
-/// Warns of a part of a schema to which no value conforms, if one is found.
-fn warn_without_values<'a>(
-    alloc: Global,
-    findings: &mut Findings<'a>,
-    schema: &Source<'a>,
-    document: &Value,
-) -> Result<(), AllocError>
-    ensures { OnOk result (errors_in findings.new ≡ errors_in findings.old) }
-{
-    match part_without_values(alloc, document)? {
-        Some(part) => findings.warn_of_part(alloc, schema, SCHEMA_WITHOUT_VALUES, &part),
-        None => Ok(()),
+    if let Some(part) = part_without_values(findings.alloc, document)? {
+        findings.warn_of_part(schema, SCHEMA_WITHOUT_VALUES, &part)?;
     }
-}
-
-/// Warns of what of a schema is not used.
-fn warn_of_keywords<'a>(
-    alloc: Global,
-    findings: &mut Findings<'a>,
-    schema: &Source<'a>,
-    document: &Value,
-) -> Result<(), AllocError>
-    ensures { OnOk result (errors_in findings.new ≡ errors_in findings.old) }
-{
-    for warning in warnings_of(alloc, document)?.as_slice() {
-        findings.warn_of_part(alloc, schema, SCHEMA_NOT_UNDERSTOOD, warning)?;
+    for warning in warnings_of(findings.alloc, document)?.as_slice() {
+        findings.warn_of_part(schema, SCHEMA_NOT_UNDERSTOOD, warning)?;
     }
     Ok(())
 }
@@ -144,13 +118,14 @@ fn add_fault<'a>(
     document: &Value,
     stops: &[Bytes],
     fault: CheckFault,
-) -> Result<(), AllocError>
+) -> Result<()>
     ensures { OnOk result (HasMore findings.old findings.new) }
 {
     match fault {
         CheckFault::Schema(SchemaFault::Refused(refused)) => {
-            let entry = schema_entry(task.alloc, schema, &refused)?;
-            findings.add_once(entry)
+            let place = position_of(schema.bytes.as_slice(), refused.path.as_slice());
+            let text = refused_text(task.alloc, "schema not understood: ", &refused)?;
+            findings.add_once(Entry::error(schema.name, place, SCHEMA_NOT_UNDERSTOOD, text))
         }
         CheckFault::Template(Refusal::MayFail(doubts)) => {
             add_doubts(task, findings, schema, document, stops, doubts.as_slice())
@@ -169,7 +144,7 @@ fn add_doubts<'a>(
     document: &Value,
     stops: &[Bytes],
     doubts: &[Doubt],
-) -> Result<(), AllocError>
+) -> Result<()>
     ensures { OnOk result (HasMore findings.old findings.new) }
 {
     let Task { alloc, set, .. } = *task;
@@ -182,9 +157,9 @@ fn add_doubts<'a>(
         Vec::new(alloc)
     };
     for (index, doubt) in doubts.iter().enumerate() {
-        let mut entry = doubt_entry(task, doubt);
         let reason = reasons.get(index).and_then(Option::as_ref);
-        entry.text = cause_text(alloc, &doubt.cause, schema.name, reason)?;
+        let text = text_of(alloc, &doubt.cause, schema.name, reason)?;
+        let mut entry = doubt_entry(task, doubt, text);
         if let Some(Some(failure)) = failures.get(index) {
             entry.note = Some(failure_text(alloc, failure, mode.is_some())?);
         }
@@ -194,15 +169,15 @@ fn add_doubts<'a>(
 }
 
 /// The message about a value for which a template fails, by the mode that was asked for or by each.
-fn failure_text(alloc: Global, failure: &Failure, is_by_mode: bool) -> Result<String, AllocError> {
-    let mode = if failure.is_strict && !is_by_mode {
-        "with --missingkey error "
-    } else {
-        ""
-    };
+fn failure_text(alloc: Global, failure: &Failure, is_by_mode: bool) -> Result<String> {
+    let is_by_error = failure.is_strict && !is_by_mode;
     Sentence::new(alloc)
         .say("fails ")
-        .say(mode)
+        .say(if is_by_error {
+            "with --missingkey error "
+        } else {
+            ""
+        })
         .say("for ")
         .say(failure.data.as_str())
         .say(": ")
@@ -211,7 +186,7 @@ fn failure_text(alloc: Global, failure: &Failure, is_by_mode: bool) -> Result<St
 }
 
 /// Names, each as bytes of its own.
-fn names_of(alloc: Global, given: &[&str]) -> Result<Vec<Bytes>, AllocError>
+fn names_of(alloc: Global, given: &[&str]) -> Result<Vec<Bytes>>
     ensures { IfOk result (λ names. names.items ≡ map (λ name. name.now) given.now) }
 {
     let mut names = Vec::new(alloc);
@@ -221,83 +196,30 @@ fn names_of(alloc: Global, given: &[&str]) -> Result<Vec<Bytes>, AllocError>
     Ok(names)
 }
 
-/// What of a schema is not understood.
-fn schema_entry<'a>(
-    alloc: Global,
-    schema: &Source<'a>,
-    refused: &Refused,
-) -> Result<Entry<'a>, AllocError> {
-    let (line, column) = position_of(schema.bytes.as_slice(), refused.path.as_slice());
-    Ok(Entry {
-        file: schema.name,
-        level: Level::Error,
-        line,
-        column,
-        rule: SCHEMA_NOT_UNDERSTOOD,
-        text: refused_text(alloc, refused)?,
-        note: None,
-    })
-}
-
-/// The message about a schema that is not read.
-fn refused_text(alloc: Global, refused: &Refused) -> Result<String, AllocError> {
-    let said = Sentence::new(alloc).say("schema not understood: ");
-    say_refused(said, refused).finish()
-}
-
-/// The message about a part of a schema: the way to it, and what is wrong there.
-pub(crate) fn part_text(alloc: Global, part: &Refused) -> Result<String, AllocError> {
-    say_refused(Sentence::new(alloc), part).finish()
-}
-
-/// Says the way to a part of a schema as a JSON Pointer, if it is not the whole document, and what is wrong there.
-fn say_refused(said: Sentence, refused: &Refused) -> Sentence {
-    let mut said = said;
+/// The message about a part of a schema: after these words the way to it, and what is wrong there.
+pub(crate) fn refused_text(alloc: Global, words: &str, refused: &Refused) -> Result<String> {
+    let mut pointer = String::new(alloc);
     for part in refused.path.as_slice().iter().rev() {
-        said = say_part(said.say("/"), part.as_str());
+        pointer = below(alloc, pointer.as_str(), part.as_str())?;
     }
-    if !refused.path.is_empty() {
-        said = said.say(": ");
-    }
-    said.say(refused.text.as_str())
-}
-
-/// Says a part of a JSON Pointer.
-fn say_part(said: Sentence, part: &str) -> Sentence {
-    let mut said = said;
-    for letter in part.chars() {
-        said = match letter {
-            '~' => said.say("~0"),
-            '/' => said.say("~1"),
-            _ => said.say(letter.encode_utf8(&mut [0; 4])),
-        };
-    }
-    said
+    Sentence::new(alloc)
+        .say(words)
+        .say(pointer.as_str())
+        .say(if pointer.is_empty() { "" } else { ": " })
+        .say(refused.text.as_str())
+        .finish()
 }
 
 /// Where a template may fail.
-fn doubt_entry<'a>(task: &Task<'_, 'a>, doubt: &Doubt) -> Entry<'a> {
+fn doubt_entry<'a>(task: &Task<'_, 'a>, doubt: &Doubt, text: String) -> Entry<'a> {
     let tree = task.set.get(doubt.template.as_slice());
     let found = tree.and_then(|tree| task.sources.place(tree.file.as_slice(), doubt.start));
     let (file, place) = found.unwrap_or((task.first, Place::first()));
-    Entry {
-        file,
-        level: Level::Error,
-        line: doubt.line.max(1),
-        column: place.column,
-        rule: MAY_FAIL,
-        text: String::new(task.alloc),
-        note: None,
-    }
+    Entry::error(file, (doubt.line.max(1), place.column), MAY_FAIL, text)
 }
 
 /// The message about a cause, for which there may be a reason in the schema of this name.
-fn cause_text(
-    alloc: Global,
-    cause: &Cause,
-    schema: &str,
-    reason: Option<&Reason>,
-) -> Result<String, AllocError> {
+fn text_of(alloc: Global, cause: &Cause, schema: &str, reason: Option<&Reason>) -> Result<String> {
     let said = Sentence::new(alloc).say("may fail: ");
     let said = match cause {
         Cause::Absent(name) => {
@@ -327,32 +249,37 @@ fn cause_text(
 
 /// Says why a field may be absent.
 fn say_absence(said: Sentence, schema: &str, reason: Option<&Reason>) -> Sentence {
-    let Some(Reason { why, line }) = reason else {
-        return said.say("the schema does not require it");
-    };
-    let words = match why {
-        Why::NotRequired => "not in \"required\" of ",
-        Why::NotListed => "not in \"properties\" of ",
-        Why::NoneRequired => "no \"required\" at ",
-        Why::NoneListed => "no \"properties\" at ",
-        Why::Kind | Why::LowMinItems | Why::NoMinItems => return said,
-    };
-    say_place(said.say(words), schema, *line)
+    match reason {
+        Some(reason) => say_reason(said, schema, reason),
+        None => said.say("the schema does not require it"),
+    }
 }
 
 /// Says why a list may have fewer items than this, where that is known.
 fn say_shortness(said: Sentence, count: u64, schema: &str, reason: Option<&Reason>) -> Sentence {
-    let Some(Reason { why, line }) = reason else {
+    let Some(reason) = reason else {
         return said;
     };
-    match why {
-        Why::LowMinItems => say_place(said.say("\"minItems\" at "), schema, *line)
-            .say(" is below ")
-            .count(count)
-            .say("; "),
-        Why::NoMinItems => say_place(said.say("no \"minItems\" at "), schema, *line).say("; "),
+    let said = say_reason(said, schema, reason);
+    match reason.why {
+        Why::LowMinItems => said.say(" is below ").count(count),
         _ => said,
     }
+    .say("; ")
+}
+
+/// Says a reason: what of the schema it is, and the line of that.
+fn say_reason(said: Sentence, schema: &str, reason: &Reason) -> Sentence {
+    let words = match reason.why {
+        Why::NotRequired => "not in \"required\" of ",
+        Why::NotListed => "not in \"properties\" of ",
+        Why::NoneRequired => "no \"required\" at ",
+        Why::NoneListed => "no \"properties\" at ",
+        Why::LowMinItems => "\"minItems\" at ",
+        Why::NoMinItems => "no \"minItems\" at ",
+        Why::Kind => "",
+    };
+    said.say(words).say(schema).say(":").count(reason.line)
 }
 
 /// Says how a template or a schema tells that a list has as many items.
@@ -371,14 +298,9 @@ fn say_guard(said: Sentence, count: u64) -> Sentence {
 fn say_kind(said: Sentence, kind: &str, schema: &str, reason: Option<&Reason>) -> Sentence {
     let said = said.say(kind).say(", which may come here");
     match reason {
-        Some(Reason { line, .. }) => say_place(said.say(" ("), schema, *line).say(")"),
+        Some(reason) => say_reason(said.say(" ("), schema, reason).say(")"),
         None => said,
     }
-}
-
-/// Says a line of a file.
-fn say_place(said: Sentence, file: &str, line: u64) -> Sentence {
-    said.say(file).say(":").count(line)
 }
 
 /// Says the name of a function.

@@ -2,12 +2,13 @@
 ghost use Rattle.std.specs.Prelude.{◌≡◌, ◌++◌, IfOk, OnOk, flat_map, string_bytes};
 ghost use Rattle.tmpl_report.specs.Told.{lines_of};
 
+use crate::Result;
 use crate::entry::Entry;
-use std::alloc::{AllocError, Global};
+use std::alloc::Global;
 use tmpl_problems::Finding;
 
 /// A line for each finding, and one for the note of it.
-pub(crate) fn lines(alloc: Global, entries: &[Entry<'_>]) -> Result<String, AllocError>
+pub(crate) fn lines(alloc: Global, entries: &[Entry<'_>]) -> Result<String>
     ensures { IfOk result (λ t. string_bytes t ≡ flat_map lines_of entries.now) }
 {
     let mut out = String::new(alloc);
@@ -18,7 +19,7 @@ pub(crate) fn lines(alloc: Global, entries: &[Entry<'_>]) -> Result<String, Allo
 }
 
 /// Adds the line of what is found, and that of its note.
-fn push_lines(out: &mut String, entry: &Entry<'_>) -> Result<(), AllocError>
+fn push_lines(out: &mut String, entry: &Entry<'_>) -> Result<()>
     ensures { OnOk result (string_bytes out.new ≡ string_bytes out.old ++ lines_of entry.now) }
 {
     let place = (entry.line, entry.column);

@@ -13,8 +13,9 @@ ghost use Rattle.tmpl_report.specs.Safe.{asked_name};
 ghost use Rattle.tmpl_report.specs.computed.Ended.{IsEnd};
 ghost use Rattle.tmpl_report.specs.computed.Entries.{AddsFault, AddsFaults};
 
+use crate::Result;
 use crate::detail::{Detail, detail_of};
-use crate::entry::{Entry, Level};
+use crate::entry::Entry;
 use crate::findings::Findings;
 use crate::held::add_held;
 use crate::rendered::{End, MOST_RENDERED, Render};
@@ -34,12 +35,11 @@ const CUT: &str =
 /// Adds what is found of the data beside the files: where it does not conform to the schema; or, if none is given and
 /// nothing is wrong, the fault of the run over it.
 pub(crate) fn add_values<'a>(
-    alloc: Global,
     findings: &mut Findings<'a>,
     set: &Set,
     question: &Question<'a>,
     sources: &Sources<'a>,
-) -> Result<(), AllocError>
+) -> Result<()>
     ensures rendered { OnOk result (has_error findings.new ≡ false → sources.now.is_short ≡ false
         → IsRendered question.now sources.now (set_view set.now) findings.new) }
     ensures held { OnOk result (has_error findings.new ≡ false → IsHeld sources.now) }
@@ -50,11 +50,11 @@ pub(crate) fn add_values<'a>(
         return Ok(());
     };
     match &sources.schema {
-        Some(schema) => add_held(alloc, findings, schema, data),
+        Some(schema) => add_held(findings, schema, data),
         None => match question.first {
             Some(first) => {
                 let task = Task {
-                    alloc,
+                    alloc: findings.alloc,
                     set,
                     question,
                     sources,
@@ -68,11 +68,12 @@ pub(crate) fn add_values<'a>(
 }
 
 /// Adds the fault of the run over the data, if nothing else is wrong.
+#[tactic(auto, using(crate::proofs::ValueLemmas::runs))]
 fn add_rendered<'a>(
     task: &Task<'_, 'a>,
     findings: &mut Findings<'a>,
     data: &Source<'a>,
-) -> Result<(), AllocError>
+) -> Result<()>
     ensures whole { OnOk result (has_error findings.new ≡ false → task.now.sources.now.is_short ≡ false
         → IsRenderedOver task.now.question.now task.now.first.now «data».now (set_view task.now.set.now) findings.new) }
     ensures told { OnOk result (AddsFaults task.now.question.now task.now.first.now «data».now (set_view task.now.set.now)
@@ -81,21 +82,6 @@ fn add_rendered<'a>(
     if task.sources.is_short || findings.has_errors() {
         return Ok(());
     }
-    add_run(task, findings, data)
-}
-
-/// The same, whatever else is wrong.
-#[tactic(auto, using(crate::proofs::ValueLemmas::runs))]
-fn add_run<'a>(
-    task: &Task<'_, 'a>,
-    findings: &mut Findings<'a>,
-    data: &Source<'a>,
-) -> Result<(), AllocError>
-    ensures whole { OnOk result (has_error findings.new ≡ false
-        → IsRenderedOver task.now.question.now task.now.first.now «data».now (set_view task.now.set.now) findings.new) }
-    ensures told { OnOk result (AddsFaults task.now.question.now task.now.first.now «data».now (set_view task.now.set.now)
-        findings.old findings.new) }
-{
     match Data::from_json(task.alloc, data.bytes.as_slice()) {
         Ok(tree) => add_run_over(task, findings, data, &tree),
         Err(DataFault::OutOfMemory) => Err(AllocError),
@@ -109,7 +95,7 @@ fn add_run_over<'a>(
     findings: &mut Findings<'a>,
     data: &Source<'a>,
     tree: &Data,
-) -> Result<(), AllocError>
+) -> Result<()>
     requires { data_of «data».now.bytes.items ≡ Ok (value_of tree.now) }
     ensures whole { OnOk result (has_error findings.new ≡ false
         → IsRenderedOver task.now.question.now task.now.first.now «data».now (set_view task.now.set.now) findings.new) }
@@ -133,7 +119,7 @@ fn add_end<'a>(
     data: &Source<'a>,
     tree: &Data,
     end: End<'_>,
-) -> Result<(), AllocError>
+) -> Result<()>
     requires value { data_of «data».now.bytes.items ≡ Ok (value_of tree.now) }
     requires end { IsEnd (run_rules (unwrap_or task.now.question.now.mode Default)) (set_view task.now.set.now)
         (asked_name task.now.question.now task.now.first.now) (value_of tree.now) end }
@@ -151,7 +137,7 @@ fn add_end<'a>(
 
 /// Warns that the run met a limit.
 #[tactic(auto, using(crate::proofs::ValueLemmas::values))]
-fn add_cut<'a>(task: &Task<'_, 'a>, findings: &mut Findings<'a>) -> Result<(), AllocError>
+fn add_cut<'a>(task: &Task<'_, 'a>, findings: &mut Findings<'a>) -> Result<()>
     ensures found { OnOk result (is_cut findings.new ≡ true) }
     ensures errors { OnOk result (errors_in findings.new ≡ errors_in findings.old) }
 {
@@ -166,7 +152,7 @@ fn add_fault<'a>(
     findings: &mut Findings<'a>,
     data: &Source<'a>,
     fault: &RunFault<'_>,
-) -> Result<(), AllocError>
+) -> Result<()>
     ensures found { OnOk result (has_error findings.new ≡ true) }
     ensures added { OnOk result (AddsFault (fault_seen fault.now) findings.old findings.new) }
 {
@@ -176,13 +162,9 @@ fn add_fault<'a>(
 }
 
 /// What is known of a fault over these data.
-fn detail_over(
-    task: &Task<'_, '_>,
-    data: &[u8],
-    fault: &RunFault<'_>,
-) -> Result<Detail, AllocError> {
+fn detail_over(task: &Task<'_, '_>, data: &[u8], fault: &RunFault<'_>) -> Result<Detail> {
     match Value::from_slice(task.alloc, data) {
-        Ok(value) => detail_of(task.alloc, task.set, task.name(), &value, fault),
+        Ok(value) => detail_of(task, &value, fault),
         Err(error) if error.is_memory() => Err(AllocError),
         Err(_) => Ok(Detail {
             text: String::new(task.alloc),
@@ -192,23 +174,13 @@ fn detail_over(
 }
 
 /// The fault of a run.
-fn fault_entry<'a>(
-    task: &Task<'_, 'a>,
-    fault: &RunFault<'_>,
-    detail: &Detail,
-) -> Result<Entry<'a>, AllocError>
+fn fault_entry<'a>(task: &Task<'_, 'a>, fault: &RunFault<'_>, detail: &Detail) -> Result<Entry<'a>>
     ensures { IfOk result (IsOfFault (fault_seen fault.now)) }
 {
     let said = said_of(task.alloc, &fault.kind)?;
     let found = task.sources.place(fault.file, detail.start.unwrap_or(0));
     let (file, place) = found.unwrap_or((task.first, Place::first()));
-    Ok(Entry {
-        file,
-        level: Level::Error,
-        line: fault.line,
-        column: place.column,
-        rule: FAILS_OVER_DATA,
-        text: reason_text(task.alloc, said.as_str(), detail.text.as_str())?,
-        note: None,
-    })
+    let text = reason_text(task.alloc, said.as_str(), detail.text.as_str())?;
+    let place = (fault.line, place.column);
+    Ok(Entry::error(file, place, FAILS_OVER_DATA, text))
 }

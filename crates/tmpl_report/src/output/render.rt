@@ -4,7 +4,10 @@ ghost use Rattle.tmpl_values.specs.View.{value_of};
 ghost use Rattle.tmpl_engine.specs.View.{templates_in};
 ghost use Rattle.tmpl_report.specs.computed.Written.{IsBroken, IsOutput, output_rules};
 
+use crate::Result;
 use crate::output::spread::{Origin, SpreadSet};
+use crate::rendered::{DEPTH, MOST_RENDERED, STEPS};
+use crate::samples::Nowhere;
 use crate::source::Task;
 use std::alloc::AllocError;
 use tmpl_engine::{
@@ -12,19 +15,11 @@ use tmpl_engine::{
 };
 use tmpl_formats::{Format, Mistake, first_mistake};
 
-/// The limits of a render.
-const STEPS: u64 = 1_000_000;
-
-const DEPTH: u32 = 500;
-
 /// The most steps of a run that is not long.
 const FEW_STEPS: u64 = 20_000;
 
 /// How often steps are halved: more than there are steps.
 const MOST_HALVES: usize = 64;
-
-/// The most bytes of output that are looked at.
-pub(super) const MOST_OUTPUT: usize = 16_000_000;
 
 /// Takes output up to a number of bytes, and keeps it.
 #[derive(Drop)]
@@ -39,7 +34,7 @@ impl Sink for Kept {
     ghost so_far = { λ s. record { bytes = Some s.bytes.items; failures = s.failures } };
 
     fn put(&mut self, bytes: &[u8]) -> Result<usize, SinkFault> {
-        let is_full = bytes.len() > MOST_OUTPUT.saturating_sub(self.bytes.len());
+        let is_full = bytes.len() > MOST_RENDERED.saturating_sub(self.bytes.len());
         if is_full || self.bytes.extend_from_slice(bytes).is_err() {
             self.failures += 1;
             return Err(SinkFault);
@@ -48,30 +43,8 @@ impl Sink for Kept {
     }
 }
 
-/// Takes output up to a number of bytes, and forgets it.
-#[derive(Drop)]
-struct Counted {
-    left: usize,
-    failures: u64,
-}
-
-impl Sink for Counted {
-    ghost use Rattle.std.specs.Prelude.{None};
-
-    ghost so_far = { λ s. record { bytes = None; failures = s.failures } };
-
-    fn put(&mut self, bytes: &[u8]) -> Result<usize, SinkFault> {
-        if bytes.len() > self.left {
-            self.failures += 1;
-            return Err(SinkFault);
-        }
-        self.left -= bytes.len();
-        Ok(bytes.len())
-    }
-}
-
 /// The template that is rendered, and the format that its output has to be of.
-#[derive(Clone, Copy)]
+#[derive(Drop)]
 pub(super) struct Writer<'w, 't, 'a> {
     pub(super) task: Task<'t, 'a>,
     pub(super) renderer: &'w Renderer,
@@ -89,11 +62,7 @@ pub(super) struct Broken {
 
 impl<'w, 't, 'a> Writer<'w, 't, 'a> {
     /// That of a task, whose set is compiled.
-    pub(super) fn new(
-        task: &Task<'t, 'a>,
-        renderer: &'w Renderer,
-        format: &'t Format,
-    ) -> Writer<'w, 't, 'a> {
+    pub(super) fn new(task: &Task<'t, 'a>, renderer: &'w Renderer, format: &'t Format) -> Self {
         Writer {
             task: *task,
             renderer,
@@ -104,7 +73,7 @@ impl<'w, 't, 'a> Writer<'w, 't, 'a> {
     }
 
     /// The output over data; none where the run has a fault or meets a limit.
-    fn output_over(&self, tree: &Data) -> Result<Option<Vec<u8>>, AllocError>
+    fn output_over(&self, tree: &Data) -> Result<Option<Vec<u8>>>
         ensures { IfOk result (λ output. IfSome output (λ bytes. IsOutput (output_rules self.now.mode)
             (templates_in self.now.renderer.now) self.now.name.now (value_of tree.now) bytes.items)) }
     {
@@ -131,7 +100,7 @@ impl<'w, 't, 'a> Writer<'w, 't, 'a> {
     }
 
     /// The output over data, where it is not of the format; none also where the run has a fault or meets a limit.
-    pub(super) fn broken_over(&self, tree: &Data) -> Result<Option<Broken>, AllocError>
+    pub(super) fn broken_over(&self, tree: &Data) -> Result<Option<Broken>>
         ensures { IfOk result (λ found. IfSome found (λ broken. IsBroken (output_rules self.now.mode)
             (templates_in self.now.renderer.now) self.now.name.now (value_of tree.now) self.now.format.now
             broken.output.items)) }
@@ -147,9 +116,11 @@ impl<'w, 't, 'a> Writer<'w, 't, 'a> {
     }
 
     /// Whether a run over data takes long.
-    pub(super) fn is_long(&self, tree: &Data) -> Result<bool, AllocError> {
-        let cut = self.cut_at(self.renderer, tree, FEW_STEPS, MOST_OUTPUT)?;
-        Ok(cut.is_some())
+    pub(super) fn is_long(&self, tree: &Data) -> Result<bool> {
+        Ok(
+            self.cut_at(self.renderer, tree, FEW_STEPS, MOST_RENDERED)?
+                .is_some(),
+        )
     }
 
     /// The fault of a run of this many steps, if it is that no step is left before more bytes are written than these.
@@ -159,14 +130,11 @@ impl<'w, 't, 'a> Writer<'w, 't, 'a> {
         tree: &'r Data,
         steps: u64,
         bytes: usize,
-    ) -> Result<Option<RunFault<'r>>, AllocError>
+    ) -> Result<Option<RunFault<'r>>>
     where
         'a: 'r,
     {
-        let mut out = Counted {
-            left: bytes,
-            failures: 0,
-        };
+        let mut out = Nowhere::of(bytes);
         let options = Options {
             missing_key: self.mode,
             depth: DEPTH,
@@ -182,11 +150,7 @@ impl<'w, 't, 'a> Writer<'w, 't, 'a> {
 
     /// The node that writes the byte before which there are this many of the output, or the last node where it has no
     /// more. A run of fewer steps writes a prefix of the output, so it is the one for which the steps run out first.
-    pub(super) fn origin_of(
-        &self,
-        tree: &Data,
-        offset: usize,
-    ) -> Result<Option<Origin<'a>>, AllocError> {
+    pub(super) fn origin_of(&self, tree: &Data, offset: usize) -> Result<Option<Origin<'a>>> {
         let task = &self.task;
         let files = task.sources.templates.as_slice();
         let Some(spread) = SpreadSet::of(task.alloc, task.set, files)? else {

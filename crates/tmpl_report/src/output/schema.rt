@@ -3,10 +3,10 @@
 ghost use Rattle.std.specs.Prelude.{OnOk};
 ghost use Rattle.tmpl_report.specs.computed.Entries.{AddsBroken};
 
+use crate::Result;
 use crate::findings::Findings;
-use crate::output::message::{broken_entry, broken_text, shown_text};
+use crate::output::message::{Found, broken_entry};
 use crate::output::render::Writer;
-use crate::output::spread::Origin;
 use crate::output::strings::{HOSTILE, count_strings, with_string};
 use crate::source::Task;
 use serde_json::Value;
@@ -31,38 +31,14 @@ const MOST_FOUND: usize = 20;
 /// The most bytes of data that are shown.
 const MOST_SHOWN: usize = 500;
 
-/// An action of which an output is not of the format.
+/// A search for outputs over data of a document that are not of the format: what it has found, and how much of it is left.
 #[derive(Drop)]
-struct Found<'a> {
-    origin: Option<Origin<'a>>,
-    text: String,
-    note: String,
-}
-
-/// What a search has found, and how much of it is left.
-#[derive(Drop)]
-struct Hunt<'a> {
+struct Hunt<'w, 't, 'd, 'a> {
+    writer: Writer<'w, 't, 'a>,
+    root: &'d Value,
     found: Vec<Found<'a>>,
     renders: usize,
     bytes: usize,
-}
-
-impl Hunt<'_> {
-    /// Counts renders.
-    fn spend(&mut self, renders: usize) {
-        self.renders = self.renders.saturating_sub(renders);
-    }
-
-    fn is_over(&self) -> bool {
-        self.renders == 0 || self.bytes == 0 || self.found.len() >= MOST_FOUND
-    }
-}
-
-/// What is searched: the outputs of a template over data of a document.
-#[derive(Clone, Copy)]
-struct Search<'w, 't, 'd, 'a> {
-    writer: Writer<'w, 't, 'a>,
-    root: &'d Value,
 }
 
 /// Adds where the output is not of the format for data of the schema that are found.
@@ -71,22 +47,19 @@ pub(crate) fn add_over_schema<'t, 'a>(
     findings: &mut Findings<'a>,
     document: &Value,
     format: &'t Format,
-) -> Result<(), AllocError>
+) -> Result<()>
     ensures { OnOk result (AddsBroken findings.old findings.new) }
 {
     let renderer = Renderer::new(task.alloc, task.set)?;
-    let writer = Writer::new(task, &renderer, format);
-    let search = Search {
-        writer,
-        root: document,
-    };
     let mut hunt = Hunt {
+        writer: Writer::new(task, &renderer, format),
+        root: document,
         found: Vec::new(task.alloc),
         renders: MOST_RENDERS,
         bytes: MOST_BYTES,
     };
-    search.look(&mut hunt, true)?;
-    search.look(&mut hunt, false)?;
+    hunt.look(true)?;
+    hunt.look(false)?;
     let Hunt { found, .. } = hunt;
     add_found(task, findings, found)
 }
@@ -96,115 +69,98 @@ fn add_found<'a>(
     task: &Task<'_, 'a>,
     findings: &mut Findings<'a>,
     found: Vec<Found<'a>>,
-) -> Result<(), AllocError>
+) -> Result<()>
     ensures { OnOk result (AddsBroken findings.old findings.new) }
 {
     for one in found.into_iter() {
-        let Found { origin, text, note } = one;
-        let entry = broken_entry(task, origin, text, note);
+        let entry = broken_entry(task, one);
         findings.add(entry)?;
     }
     Ok(())
 }
 
-impl<'a> Search<'_, '_, '_, 'a> {
+impl Hunt<'_, '_, '_, '_> {
+    /// Counts renders.
+    fn spend(&mut self, renders: usize) {
+        self.renders = self.renders.saturating_sub(renders);
+    }
+
+    fn is_over(&self) -> bool {
+        self.renders == 0 || self.bytes == 0 || self.found.len() >= MOST_FOUND
+    }
+
     /// Tries the usual value of the schema, and each that differs from it by one choice.
-    fn look(&self, hunt: &mut Hunt<'a>, is_lean: bool) -> Result<(), AllocError> {
-        let counts = self.try_drawn(hunt, is_lean, &[])?;
+    fn look(&mut self, is_lean: bool) -> Result<()> {
+        let counts = self.try_drawn(is_lean, &[])?;
         for (point, count) in counts.iter().enumerate() {
             for away in 1..*count {
-                if hunt.is_over() {
+                if self.is_over() {
                     return Ok(());
                 }
-                self.try_drawn(hunt, is_lean, &[Flip { point, away }])?;
+                self.try_drawn(is_lean, &[Flip { point, away }])?;
             }
         }
         Ok(())
     }
 
     /// Tries the value of these choices, also with other strings in it. Gives between how many was chosen, at each point.
-    fn try_drawn(
-        &self,
-        hunt: &mut Hunt<'a>,
-        is_lean: bool,
-        flips: &[Flip],
-    ) -> Result<Vec<usize>, AllocError> {
+    fn try_drawn(&mut self, is_lean: bool, flips: &[Flip]) -> Result<Vec<usize>> {
         let mut draw = Draw::new(self.writer.task.alloc, self.root, is_lean, flips);
         let drawn = draw.whole()?;
         let Draw { counts, .. } = draw;
         if let Some(value) = drawn {
-            self.try_value(hunt, &value)?;
-            self.try_strings(hunt, &value)?;
+            self.try_value(&value)?;
+            self.try_strings(&value)?;
         }
         Ok(counts)
     }
 
     /// Tries a value with each hostile string in the place of each of its strings.
-    fn try_strings(&self, hunt: &mut Hunt<'a>, value: &Value) -> Result<(), AllocError> {
+    fn try_strings(&mut self, value: &Value) -> Result<()> {
         let count = count_strings(value, LEVELS);
         for number in 1..=count.min(MOST_RENDERS) {
             for text in HOSTILE {
-                if hunt.is_over() {
+                if self.is_over() {
                     return Ok(());
                 }
                 let mut left = number;
                 let other = with_string(self.writer.task.alloc, value, text, &mut left)?;
-                self.try_value(hunt, &other)?;
+                self.try_value(&other)?;
             }
         }
         Ok(())
     }
 
     /// Renders the template over a value, if that conforms, and keeps what is found.
-    fn try_value(&self, hunt: &mut Hunt<'a>, value: &Value) -> Result<(), AllocError> {
-        hunt.spend(1);
+    fn try_value(&mut self, value: &Value) -> Result<()> {
+        self.spend(1);
         if !conforms(self.root, LEVELS, self.root, value) {
             return Ok(());
         }
         let data = value.to_string(self.writer.task.alloc)?;
-        hunt.bytes = hunt.bytes.saturating_sub(data.len());
+        self.bytes = self.bytes.saturating_sub(data.len());
         let tree = match Data::from_json(self.writer.task.alloc, data.as_bytes()) {
             Ok(tree) => tree,
             Err(DataFault::OutOfMemory) => return Err(AllocError),
             Err(_) => return Ok(()),
         };
-        self.try_data(hunt, &tree, data.as_str())
+        self.try_data(&tree, data.as_str())
     }
 
     /// Keeps what is found of the output over data, unless it is of an action of which something is found.
-    fn try_data(&self, hunt: &mut Hunt<'a>, tree: &Data, data: &str) -> Result<(), AllocError> {
-        let alloc = self.writer.task.alloc;
+    fn try_data(&mut self, tree: &Data, data: &str) -> Result<()> {
         let is_long = self.writer.is_long(tree)?;
         let Some(broken) = self.writer.broken_over(tree)? else {
-            hunt.spend(if is_long { LONG } else { 0 });
+            self.spend(if is_long { LONG } else { 0 });
             return Ok(());
         };
-        hunt.spend(if is_long { LONG_AND_SEARCHED } else { 0 });
-        hunt.bytes = hunt.bytes.saturating_sub(broken.output.len());
-        let origin = self.writer.origin_of(tree, broken.mistake.offset)?;
-        let text = broken_text(&self.writer.task, "may write no ", &broken)?;
-        let shown = if data.len() > MOST_SHOWN {
-            None
-        } else {
-            Some(data)
-        };
-        let note = shown_text(alloc, &broken, shown)?;
-        let is_there = hunt
-            .found
-            .iter()
-            .any(|other| is_same(&other.origin, &origin));
-        if !is_there {
-            hunt.found.push(Found { origin, text, note })?;
+        self.spend(if is_long { LONG_AND_SEARCHED } else { 0 });
+        self.bytes = self.bytes.saturating_sub(broken.output.len());
+        let shown = Some(data).filter(|data| data.len() <= MOST_SHOWN);
+        let found = self.writer.found(tree, &broken, "may write no ", shown)?;
+        if !self.found.iter().any(|other| other.origin == found.origin) {
+            self.found.push(found)?;
         }
         Ok(())
-    }
-}
-
-/// Whether two actions are the same.
-fn is_same(one: &Option<Origin<'_>>, other: &Option<Origin<'_>>) -> bool {
-    match (one, other) {
-        (Some(one), Some(other)) => one.file == other.file && one.start == other.start,
-        (None, None) => true,
-        _ => false,
     }
 }

@@ -1,6 +1,7 @@
 //! The same templates with each node on a line of its own, so that the line of a fault says of which node it is. Before each
 //! node stands a comment with a newline in it, which writes nothing and trims what the node's own marker trims.
 
+use crate::Result;
 use crate::source::Source;
 use std::alloc::{AllocError, Global};
 use tmpl_syntax::{Node, NodeKind, ParseKind, Set, parse_file};
@@ -10,12 +11,14 @@ const COMMENT: &[u8] = b"{{/*\n*/}}";
 
 const TRIMMING: &[u8] = b"{{- /*\n*/ -}}";
 
+/// For each node its line here, and how many bytes of the file as it was given stand before it.
+type Lines = Vec<(u64, usize)>;
+
 /// A file whose nodes are on lines of their own.
 #[derive(Drop)]
 struct Spread<'a> {
     name: &'a str,
-    /// For each node its line here, and how many bytes of the file as it was given stand before it.
-    lines: Vec<(u64, usize)>,
+    lines: Lines,
 }
 
 /// Templates whose nodes are on lines of their own.
@@ -26,7 +29,7 @@ pub(crate) struct SpreadSet<'a> {
 }
 
 /// A node of a file as it was given.
-#[derive(Clone, Copy)]
+#[derive(Drop, PartialEq)]
 pub(crate) struct Origin<'a> {
     pub(crate) file: &'a str,
     /// How many bytes of the file stand before it.
@@ -35,19 +38,14 @@ pub(crate) struct Origin<'a> {
 
 impl<'a> SpreadSet<'a> {
     /// The templates of files that make a set; none where a file is too long with its comments.
-    pub(crate) fn of(
-        alloc: Global,
-        set: &Set,
-        files: &[Source<'a>],
-    ) -> Result<Option<SpreadSet<'a>>, AllocError> {
+    pub(crate) fn of(alloc: Global, set: &Set, files: &[Source<'a>]) -> Result<Option<Self>> {
         let mut all = SpreadSet {
             set: Set::new(alloc),
             files: Vec::new(alloc),
         };
         for file in files {
             let starts = starts_in(alloc, set, file.name)?;
-            let mut lines = Vec::new(alloc);
-            let bytes = spread_file(alloc, file.bytes.as_slice(), starts.as_slice(), &mut lines)?;
+            let (bytes, lines) = spread_file(alloc, file.bytes.as_slice(), starts.as_slice())?;
             if !add_file(alloc, &mut all.set, file.name, bytes.as_slice())? {
                 return Ok(None);
             }
@@ -61,29 +59,19 @@ impl<'a> SpreadSet<'a> {
 
     /// The node on a line of a file.
     pub(crate) fn origin(&self, file: &[u8], line: u64) -> Option<Origin<'a>> {
-        for spread in self.files.as_slice() {
-            if spread.name.as_bytes() == file {
-                for (at, start) in spread.lines.as_slice() {
-                    if *at == line {
-                        return Some(Origin {
-                            file: spread.name,
-                            start: *start,
-                        });
-                    }
-                }
-            }
-        }
-        None
+        let mut files = self.files.as_slice().iter();
+        let spread = files.find(|spread| spread.name.as_bytes() == file)?;
+        let mut lines = spread.lines.as_slice().iter();
+        let (_, start) = lines.find(|found| found.0 == line)?;
+        Some(Origin {
+            file: spread.name,
+            start: *start,
+        })
     }
 }
 
 /// Adds the templates of a file to a set. Whether the file is accepted.
-pub(crate) fn add_file(
-    alloc: Global,
-    set: &mut Set,
-    file: &str,
-    bytes: &[u8],
-) -> Result<bool, AllocError> {
+pub(crate) fn add_file(alloc: Global, set: &mut Set, file: &str, bytes: &[u8]) -> Result<bool> {
     match parse_file(alloc, set, file, bytes) {
         Ok(()) => Ok(true),
         Err(fault) if matches!(fault.kind, ParseKind::OutOfMemory) => Err(AllocError),
@@ -92,7 +80,7 @@ pub(crate) fn add_file(
 }
 
 /// Where the nodes of a file begin, each place once, in order.
-fn starts_in(alloc: Global, set: &Set, file: &str) -> Result<Vec<usize>, AllocError> {
+fn starts_in(alloc: Global, set: &Set, file: &str) -> Result<Vec<usize>> {
     let mut starts = Vec::new(alloc);
     for name in set.names() {
         if let Some(tree) = set.get(name) {
@@ -108,7 +96,7 @@ fn starts_in(alloc: Global, set: &Set, file: &str) -> Result<Vec<usize>, AllocEr
 
 /// Adds where nodes begin.
 #[cycle(starts)]
-fn add_starts(nodes: &[Node], starts: &mut Vec<usize>) -> Result<(), AllocError> {
+fn add_starts(nodes: &[Node], starts: &mut Vec<usize>) -> Result<()> {
     for node in nodes {
         starts.push(node.start)?;
         if let NodeKind::Control(control) = &node.what {
@@ -120,25 +108,22 @@ fn add_starts(nodes: &[Node], starts: &mut Vec<usize>) -> Result<(), AllocError>
 }
 
 /// The bytes of a file with a comment at each of these places, and the lines of what begins there.
-fn spread_file(
-    alloc: Global,
-    bytes: &[u8],
-    starts: &[usize],
-    lines: &mut Vec<(u64, usize)>,
-) -> Result<Vec<u8>, AllocError> {
+fn spread_file(alloc: Global, bytes: &[u8], starts: &[usize]) -> Result<(Vec<u8>, Lines)> {
     let mut made = Vec::new(alloc);
+    let mut lines = Vec::new(alloc);
     let mut from: usize = 0;
     let mut line: u64 = 1;
     for start in starts {
         let before = bytes.get(from..*start).unwrap_or(&[]);
-        line = line.saturating_add(newlines(before)).saturating_add(1);
+        let newlines = before.iter().filter(|byte| **byte == b'\n').count() as u64;
+        line = line.saturating_add(newlines).saturating_add(1);
         made.extend_from_slice(before)?;
         made.extend_from_slice(comment_before(bytes.get(*start..).unwrap_or(&[])))?;
         lines.push((line, *start))?;
         from = *start;
     }
     made.extend_from_slice(bytes.get(from..).unwrap_or(&[]))?;
-    Ok(made)
+    Ok((made, lines))
 }
 
 /// The comment before what begins so.
@@ -147,15 +132,4 @@ fn comment_before(rest: &[u8]) -> &'static [u8] {
         [b'{', b'{', b'-', b' ' | b'\t' | b'\r' | b'\n', ..] => TRIMMING,
         _ => COMMENT,
     }
-}
-
-/// How many newlines there are.
-fn newlines(bytes: &[u8]) -> u64 {
-    let mut count: u64 = 0;
-    for byte in bytes {
-        if *byte == b'\n' {
-            count = count.saturating_add(1);
-        }
-    }
-    count
 }

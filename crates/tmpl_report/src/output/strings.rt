@@ -1,7 +1,9 @@
 //! Values with other strings in them, which a format may not take.
 
+use crate::Result;
+use crate::samples::is_counted_out;
 use serde_json::{Map, Value, put};
-use std::alloc::{AllocError, Global};
+use std::alloc::Global;
 
 /// Strings that break outputs in which they are not quoted, or are quoted for something else.
 pub(super) static HOSTILE: [&str; 20] = [
@@ -39,15 +41,10 @@ pub(super) fn with_string(
     value: &Value,
     text: &str,
     number: &mut usize,
-) -> Result<Value, AllocError> {
+) -> Result<Value> {
     match value {
-        Value::String(_) => {
-            let is_meant = *number == 1;
-            *number = number.saturating_sub(1);
-            if is_meant {
-                return Ok(Value::String(String::from_str(alloc, text)?));
-            }
-            value.clone()
+        Value::String(_) if is_counted_out(number) => {
+            Ok(Value::String(String::from_str(alloc, text)?))
         }
         Value::Array(items) => {
             let mut all: Vec<Value> = Vec::new(alloc);

@@ -3,12 +3,13 @@
 ghost use Rattle.std.specs.Prelude.{◌≡◌};
 ghost use Rattle.tmpl_report.specs.declared.reasons.origin.Lost.TheVariants as lost;
 
+use crate::Result;
 use percent_encoding::{DecodeError, percent_decode};
 use serde_json::Value;
-use std::alloc::{AllocError, AllocFailed, Global};
+use std::alloc::{AllocError, Global};
 use tmpl_json_schema::{
-    Kinds, choices_in, chosen_by, has_content, is_every_kind, items_in, kinds_of, lets_no_map,
-    part_in, requires_key,
+    Kinds, choices_in, chosen_by, is_every_kind, items_in, kinds_of, lets_no_map, part_in,
+    requires_key,
 };
 
 /// The most places that are followed at once.
@@ -33,14 +34,6 @@ impl From<AllocError> for Lost {
     }
 }
 
-impl<T: Drop> From<AllocFailed<T>> for Lost {
-    ghost from_gives = { λ _ e. e ≡ lost.OutOfMemory };
-
-    fn from(_: AllocFailed<T>) -> Lost {
-        Lost::OutOfMemory
-    }
-}
-
 /// A document.
 #[derive(Clone, Copy)]
 pub(crate) struct Document<'d> {
@@ -50,7 +43,7 @@ pub(crate) struct Document<'d> {
 }
 
 /// Where a value comes from.
-#[derive(Drop)]
+#[derive(Clone, Drop)]
 pub(crate) struct Origin {
     /// The JSON Pointers of the schemas of which it conforms to one.
     pub(crate) places: Vec<String>,
@@ -77,29 +70,19 @@ impl Origin {
         Ok(origin)
     }
 
-    /// A copy of it.
-    pub(crate) fn copy(&self, alloc: Global) -> Result<Origin, AllocError> {
-        Ok(Origin {
-            places: self.places.clone()?,
-            is_there: self.is_there,
-            is_whole: self.is_whole,
-        })
-    }
-
-    /// Whether it has this place.
-    fn has(&self, place: &str) -> bool {
-        self.places.iter().any(|other| other.as_str() == place)
-    }
-
     /// Adds a place.
     fn add(&mut self, place: String) -> Result<(), Lost> {
-        if self.has(place.as_str()) {
+        if self
+            .places
+            .iter()
+            .any(|other| other.as_str() == place.as_str())
+        {
             return Ok(());
         }
         if self.places.len() >= MOST_PLACES {
             return Err(Lost::Untold);
         }
-        Ok(self.places.push(place)?)
+        self.places.push(place).map_err(|_| Lost::OutOfMemory)
     }
 
     /// Adds the place of a part of what is at a place.
@@ -119,7 +102,7 @@ impl Origin {
 }
 
 /// The pointer to a part of what another points to.
-pub(crate) fn below(alloc: Global, place: &str, part: &str) -> Result<String, AllocError> {
+pub(crate) fn below(alloc: Global, place: &str, part: &str) -> Result<String> {
     let mut pointer = String::from_str(alloc, place)?;
     pointer.push('/')?;
     for letter in part.chars() {
@@ -140,10 +123,7 @@ impl<'d> Document<'d> {
 
     /// What stands at a place.
     pub(crate) fn schema_at(&self, place: &str) -> Result<&'d Value, Lost> {
-        match self.root.pointer(place) {
-            Some(schema) => Ok(schema),
-            None => Err(Lost::Untold),
-        }
+        self.root.pointer(place).ok_or(Lost::Untold)
     }
 
     /// The place that a `$ref` points to.
@@ -287,9 +267,4 @@ impl<'d> Document<'d> {
         }
         Ok(elements)
     }
-}
-
-/// Whether each value conforms to a schema without alternatives and with these kinds, as far as fields and items go.
-pub(crate) fn lets_all(schema: &Value, kinds: Kinds) -> bool {
-    !has_content(schema) && is_every_kind(kinds)
 }

@@ -8,7 +8,8 @@ ghost use Rattle.tmpl_report.specs.Position as spec;
 ghost use Rattle.tmpl_report.specs.Position.{Begins, IsLine, IsNamed, IsPosition, IsKey, IsStart};
 ghost use Rattle.tmpl_syntax.specs.Column.{column_at, line_at};
 
-use std::alloc::{AllocError, Global};
+use crate::Result;
+use std::alloc::Global;
 use tmpl_syntax::Place;
 
 /// The line and the column of a byte, or of the end.
@@ -51,7 +52,7 @@ pub fn position_of(bytes: &[u8], path: &[String]) -> (u64, u64)
 }
 
 /// The line of what a JSON Pointer points to, or of its key; none where that is not seen, as a key with escapes is not.
-pub(crate) fn line_of(alloc: Global, bytes: &[u8], pointer: &str) -> Result<Option<u64>, AllocError>
+pub(crate) fn line_of(alloc: Global, bytes: &[u8], pointer: &str) -> Result<Option<u64>>
     ensures { IfOk result (λ line. IfSome line (IsLine bytes.now)) }
 {
     let mut part = whole(bytes);
@@ -67,7 +68,7 @@ pub(crate) fn line_of(alloc: Global, bytes: &[u8], pointer: &str) -> Result<Opti
 }
 
 /// A part of a JSON Pointer without its escapes.
-fn without_escapes(alloc: Global, part: &str) -> Result<String, AllocError> {
+fn without_escapes(alloc: Global, part: &str) -> Result<String> {
     let mut text = String::new(alloc);
     let mut is_escaped = false;
     for letter in part.chars() {
@@ -121,17 +122,12 @@ fn inner_part(bytes: &[u8], start: usize, name: &str) -> Option<Part>
 fn part_at(bytes: &[u8], start: usize, is_member: bool) -> Part
     ensures { result.start ≡ start }
 {
-    if !is_member {
-        return Part {
-            start,
-            value: start,
-        };
+    let mut value = start;
+    if is_member {
+        let colon = after_space(bytes, after_value(bytes, start));
+        value = after_space(bytes, colon.saturating_add(1));
     }
-    let colon = after_space(bytes, after_value(bytes, start));
-    Part {
-        start,
-        value: after_space(bytes, colon.saturating_add(1)),
-    }
+    Part { start, value }
 }
 
 /// Whether the member that begins here has this key, or the item of this index this name.

@@ -3,12 +3,13 @@ ghost use Rattle.std.specs.Prelude.{Some, IfOk, IfSome};
 ghost use Rattle.std.specs.List.{AllZip};
 ghost use Rattle.tmpl_report.specs.Reason.{IsReason, IsTold, absence, few, gap_by, gap_of, kind};
 
-use crate::reasons::origin::{Document, Lost, Origin, below, lets_all};
+use crate::Result;
+use crate::reasons::origin::{Document, Lost, Origin, below};
 use crate::reasons::position::line_of;
-use crate::reasons::walk::{Asked, asked_of};
+use crate::reasons::walk::asked_of;
 use serde_json::Value;
 use std::alloc::{AllocError, Global};
-use tmpl_json_schema::{Kinds, least_items, requires_key};
+use tmpl_json_schema::{Kinds, has_content, is_every_kind, least_items, requires_key};
 use tmpl_schema::{Cause, Doubt};
 use tmpl_syntax::Set;
 
@@ -39,6 +40,9 @@ pub struct Reason {
     pub line: u64,
 }
 
+/// A reason, where one is found.
+type Found = Result<Option<Reason>, Lost>;
+
 /// For each alarm why what it speaks of may come, in a run of the template of this name over data of the document of
 /// these bytes, where one place of that alone lets it through; else none. The alarms are those that `check_document`
 /// gives.
@@ -65,17 +69,12 @@ pub fn reasons_of(
 /// Why what the alarm speaks of may come, where its provenance is known.
 fn reason_for(
     document: Document<'_>,
-    asked: Option<&Asked>,
+    asked: Option<&Option<Origin>>,
     doubt: &Doubt,
-) -> Result<Option<Reason>, AllocError>
+) -> Result<Option<Reason>>
     ensures { IfOk result (IsTold document.entry.bytes.now doubt.now) }
 {
-    let Some(
-        Asked {
-            origin: Some(origin),
-        },
-    ) = asked
-    else {
+    let Some(Some(origin)) = asked else {
         return Ok(None);
     };
     match reason_among(document, origin, &doubt.cause) {
@@ -86,11 +85,7 @@ fn reason_for(
 }
 
 /// Why what the cause speaks of may come from there, where one place alone lets it through.
-fn reason_among(
-    document: Document<'_>,
-    asked: &Origin,
-    cause: &Cause,
-) -> Result<Option<Reason>, Lost>
+fn reason_among(document: Document<'_>, asked: &Origin, cause: &Cause) -> Found
     ensures { IfOk result (λ reason. IfSome reason (IsReason document.entry.bytes.now (gap_of cause.now))) }
 {
     let plain = document.plain(asked)?;
@@ -107,12 +102,7 @@ fn reason_among(
 }
 
 /// Why the schema at a plain place lets through what the cause speaks of, if it does.
-fn reason_at(
-    document: Document<'_>,
-    place: &str,
-    is_there: bool,
-    cause: &Cause,
-) -> Result<Option<Reason>, Lost>
+fn reason_at(document: Document<'_>, place: &str, is_there: bool, cause: &Cause) -> Found
     ensures { IfOk result (λ reason. IfSome reason (IsReason document.entry.bytes.now (gap_of cause.now))) }
 {
     match cause {
@@ -127,7 +117,7 @@ fn reason_at(
 }
 
 /// Why a map of the schema at a plain place may have no such field.
-fn why_absent(document: Document<'_>, place: &str, name: &str) -> Result<Option<Reason>, Lost>
+fn why_absent(document: Document<'_>, place: &str, name: &str) -> Found
     ensures { IfOk result (λ reason. IfSome reason (IsReason document.entry.bytes.now (Some absence))) }
 {
     let schema = document.schema_at(place)?;
@@ -150,7 +140,7 @@ fn why_absent(document: Document<'_>, place: &str, name: &str) -> Result<Option<
 /// that is not known.
 fn lets_kind(schema: &Value, kinds: Kinds, word: &str) -> Option<bool> {
     match word {
-        "any value" => Some(lets_all(schema, kinds)),
+        "any value" => Some(!has_content(schema) && is_every_kind(kinds)),
         "null" => Some(kinds.null),
         "a boolean" => Some(kinds.truth),
         "a number" => Some(kinds.number),
@@ -161,12 +151,7 @@ fn lets_kind(schema: &Value, kinds: Kinds, word: &str) -> Option<bool> {
 }
 
 /// Why a value of the schema at a plain place may be of the kind of this word.
-fn why_kind(
-    document: Document<'_>,
-    place: &str,
-    is_there: bool,
-    word: &str,
-) -> Result<Option<Reason>, Lost>
+fn why_kind(document: Document<'_>, place: &str, is_there: bool, word: &str) -> Found
     ensures { IfOk result (λ reason. IfSome reason (IsReason document.entry.bytes.now (Some kind))) }
 {
     let schema = document.schema_at(place)?;
@@ -179,11 +164,7 @@ fn why_kind(
 }
 
 /// What lets a kind of values through at the place of this schema.
-fn reason_of_kind(
-    document: Document<'_>,
-    schema: &Value,
-    place: &str,
-) -> Result<Option<Reason>, Lost>
+fn reason_of_kind(document: Document<'_>, schema: &Value, place: &str) -> Found
     ensures { IfOk result (λ reason. IfSome reason (IsReason document.entry.bytes.now (Some kind))) }
 {
     for keyword in ["type", "enum", "const"] {
@@ -195,7 +176,7 @@ fn reason_of_kind(
 }
 
 /// Why a list of the schema at a plain place may have fewer items than this.
-fn why_few(document: Document<'_>, place: &str, count: u64) -> Result<Option<Reason>, Lost>
+fn why_few(document: Document<'_>, place: &str, count: u64) -> Found
     ensures { IfOk result (λ reason. IfSome reason (IsReason document.entry.bytes.now (Some few))) }
 {
     let schema = document.schema_at(place)?;
@@ -210,12 +191,7 @@ fn why_few(document: Document<'_>, place: &str, count: u64) -> Result<Option<Rea
 }
 
 /// The reason at a keyword of the schema at a place.
-fn reason_under(
-    document: Document<'_>,
-    why: Why,
-    place: &str,
-    keyword: &str,
-) -> Result<Option<Reason>, Lost>
+fn reason_under(document: Document<'_>, why: Why, place: &str, keyword: &str) -> Found
     ensures { IfOk result (λ reason. IfSome reason (IsReason document.entry.bytes.now (Some (gap_by why)))) }
 {
     let place = below(document.alloc, place, keyword)?;
@@ -223,7 +199,7 @@ fn reason_under(
 }
 
 /// The reason at a place, where its line is seen.
-fn reason_by(document: Document<'_>, why: Why, place: &str) -> Result<Option<Reason>, Lost>
+fn reason_by(document: Document<'_>, why: Why, place: &str) -> Found
     ensures { IfOk result (λ reason. IfSome reason (IsReason document.entry.bytes.now (Some (gap_by why)))) }
 {
     match line_of(document.alloc, document.bytes, place)? {

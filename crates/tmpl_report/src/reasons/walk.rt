@@ -1,5 +1,6 @@
 //! The walk over templates that follows where their values come from in a document.
 
+use crate::Result;
 use crate::reasons::origin::{Document, Lost, Origin};
 use std::alloc::AllocError;
 use std::mem;
@@ -7,7 +8,7 @@ use std::str::from_utf8;
 use tmpl_funcs::Func;
 use tmpl_schema::{Cause, Doubt};
 use tmpl_syntax::{
-    Binding, Command, Control, ControlNode, Header, Node, NodeKind, Operand, Set, Tree,
+    Binding, Command, Control, ControlNode, Node, NodeKind, Operand, Pipeline, Set, Tree,
 };
 use tmpl_values::Bytes;
 
@@ -33,20 +34,14 @@ pub(crate) struct Source<'w> {
     pub(crate) origin: Option<Origin>,
 }
 
-/// Where the values come from of which an alarm speaks: none where that is not known.
-#[derive(Drop)]
-pub(crate) struct Asked {
-    pub(crate) origin: Option<Origin>,
-}
-
 /// A walk over a template.
 #[derive(Drop)]
 struct Walk<'w> {
     document: Document<'w>,
     name: &'w [u8],
     doubts: &'w [Doubt],
-    /// For each alarm what is found.
-    asked: Vec<Asked>,
+    /// For each alarm where the values come from of which it speaks: none where that is not known.
+    asked: Vec<Option<Origin>>,
     /// What is handed to templates that are called.
     handed: Vec<Source<'w>>,
     /// Where dot comes from.
@@ -59,19 +54,16 @@ struct Walk<'w> {
     is_crowded: bool,
 }
 
-/// A copy of where a value comes from.
-fn copy_known(
-    document: Document<'_>,
-    origin: &Option<Origin>,
-) -> Result<Option<Origin>, AllocError> {
+/// A copy of where a value comes from, where that is known.
+fn copy(origin: &Option<Origin>) -> Result<Origin, Lost> {
     match origin {
-        Some(origin) => Ok(Some(origin.copy(document.alloc)?)),
-        None => Ok(None),
+        Some(origin) => Ok(origin.clone()?),
+        None => Err(Lost::Untold),
     }
 }
 
 /// What is found, or none; an error means that memory ran out.
-fn if_told(found: Result<Origin, Lost>) -> Result<Option<Origin>, AllocError> {
+fn if_told(found: Result<Origin, Lost>) -> Result<Option<Origin>> {
     match found {
         Ok(origin) => Ok(Some(origin)),
         Err(Lost::Untold) => Ok(None),
@@ -80,11 +72,7 @@ fn if_told(found: Result<Origin, Lost>) -> Result<Option<Origin>, AllocError> {
 }
 
 /// Adds where a value may come from too. Gives whether that is more than was known.
-fn widen(
-    document: Document<'_>,
-    known: &mut Option<Origin>,
-    more: &Option<Origin>,
-) -> Result<bool, AllocError> {
+fn widen(known: &mut Option<Origin>, more: &Option<Origin>) -> Result<bool> {
     let Some(origin) = known else {
         return Ok(false);
     };
@@ -117,55 +105,48 @@ enum Wanted<'w> {
     Items(Func, u64),
 }
 
-impl<'w> Wanted<'w> {
+/// What the alarm of this index speaks of.
+#[derive(Clone, Copy)]
+struct Sought<'w> {
+    index: usize,
+    wanted: Wanted<'w>,
+}
+
+impl<'w> Sought<'w> {
     /// What a cause speaks of.
-    fn of(cause: &'w Cause) -> Option<Wanted<'w>> {
-        match cause {
-            Cause::Absent(name) | Cause::NoFields(name, _) => Some(Wanted::Field(name.as_slice())),
-            Cause::FewItems(func, count) => Some(Wanted::Items(*func, *count)),
-            _ => None,
-        }
+    fn of(index: usize, cause: &'w Cause) -> Option<Sought<'w>> {
+        let wanted = match cause {
+            Cause::Absent(name) | Cause::NoFields(name, _) => Wanted::Field(name.as_slice()),
+            Cause::FewItems(func, count) => Wanted::Items(*func, *count),
+            _ => return None,
+        };
+        Some(Sought { index, wanted })
     }
 }
 
 /// Whether an operand is this number.
 fn is_number(operand: &Operand, number: u64) -> bool {
-    match operand {
-        Operand::Number(value) => u64::try_from(*value) == Ok(number),
-        _ => false,
-    }
+    matches!(operand, Operand::Number(value) if u64::try_from(*value) == Ok(number))
 }
 
 /// Where lists come from, if they are no parts of others.
 fn if_whole(found: Result<Origin, Lost>) -> Result<Origin, Lost> {
-    match found {
-        Ok(origin) if origin.is_whole => Ok(origin),
-        Ok(_) => Err(Lost::Untold),
-        Err(lost) => Err(lost),
+    let origin = found?;
+    if origin.is_whole {
+        Ok(origin)
+    } else {
+        Err(Lost::Untold)
     }
 }
 
 impl<'w> Walk<'w> {
-    /// Where dot comes from.
-    fn dot(&self) -> Result<Origin, Lost> {
-        self.copy(&self.dot)
-    }
-
     /// Where the value of a variable comes from.
     fn variable(&self, name: &[u8]) -> Result<Origin, Lost> {
         if self.is_crowded || self.assigned.iter().any(|other| *other == name) {
             return Err(Lost::Untold);
         }
         match self.scope.iter().rev().find(|source| source.name == name) {
-            Some(source) => self.copy(&source.origin),
-            None => Err(Lost::Untold),
-        }
-    }
-
-    /// A copy of where a value comes from, where that is known.
-    fn copy(&self, origin: &Option<Origin>) -> Result<Origin, Lost> {
-        match origin {
-            Some(origin) => Ok(origin.copy(self.document.alloc)?),
+            Some(source) => copy(&source.origin),
             None => Err(Lost::Untold),
         }
     }
@@ -233,8 +214,8 @@ impl<'w> Walk<'w> {
     #[cycle(value)]
     fn operand(&self, levels: usize, operand: &Operand) -> Result<Origin, Lost> {
         match operand {
-            Operand::Dot => self.dot(),
-            Operand::Fields(fields) => self.chain(self.dot()?, fields.as_slice()),
+            Operand::Dot => copy(&self.dot),
+            Operand::Fields(fields) => self.chain(copy(&self.dot)?, fields.as_slice()),
             Operand::Variable { name, fields } => {
                 self.chain(self.variable(name.as_slice())?, fields.as_slice())
             }
@@ -247,10 +228,10 @@ impl<'w> Walk<'w> {
     }
 
     /// Notes where a value comes from of which the alarm of this index speaks.
-    fn ask(&mut self, index: usize, found: Result<Origin, Lost>) -> Result<(), AllocError> {
+    fn ask(&mut self, index: usize, found: Result<Origin, Lost>) -> Result<()> {
         let found = if_told(found)?;
         if let Some(asked) = self.asked.get_mut(index) {
-            widen(self.document, &mut asked.origin, &found)?;
+            widen(asked, &found)?;
         }
         Ok(())
     }
@@ -258,12 +239,11 @@ impl<'w> Walk<'w> {
     /// Looks for what an alarm speaks of among the fields of a value.
     fn look_at(
         &mut self,
-        index: usize,
-        wanted: Wanted<'_>,
+        sought: Sought<'_>,
         start: Result<Origin, Lost>,
         names: &[Bytes],
-    ) -> Result<(), AllocError> {
-        let Wanted::Field(wanted) = wanted else {
+    ) -> Result<()> {
+        let Wanted::Field(wanted) = sought.wanted else {
             return Ok(());
         };
         let mut origin = start;
@@ -274,7 +254,7 @@ impl<'w> Walk<'w> {
                 Err(lost) => Err(*lost),
             };
             if name.as_slice() == wanted {
-                self.ask(index, before)?;
+                self.ask(sought.index, before)?;
             }
         }
         Ok(())
@@ -287,7 +267,7 @@ impl<'w> Walk<'w> {
         count: u64,
         start: Result<Origin, Lost>,
         keys: &[Operand],
-    ) -> Result<(), AllocError> {
+    ) -> Result<()> {
         let mut origin = start;
         for key in keys {
             let list = origin;
@@ -303,47 +283,36 @@ impl<'w> Walk<'w> {
     }
 
     /// Looks whether a command calls the function that needs this many items of a list.
-    fn look_call(
-        &mut self,
-        levels: usize,
-        index: usize,
-        wanted: Wanted<'_>,
-        operands: &[Operand],
-    ) -> Result<(), AllocError> {
-        let Wanted::Items(func, count) = wanted else {
+    fn look_call(&mut self, levels: usize, sought: Sought<'_>, operands: &[Operand]) -> Result<()> {
+        let (Wanted::Items(func, count), [Operand::Function(called), list, rest @ ..]) = (
+            sought.wanted,
+            operands,
+        ) else {
             return Ok(());
         };
-        match operands {
-            [Operand::Function(called), list, rest @ ..] if *called == func => {
-                let start = self.operand(levels, list);
-                match rest {
-                    keys if func == Func::Index => self.look_along(index, count, start, keys),
-                    [.., last] if is_number(last, count) => self.ask(index, if_whole(start)),
-                    _ => Ok(()),
-                }
-            }
+        if *called != func {
+            return Ok(());
+        }
+        let start = self.operand(levels, list);
+        match rest {
+            keys if func == Func::Index => self.look_along(sought.index, count, start, keys),
+            [.., last] if is_number(last, count) => self.ask(sought.index, if_whole(start)),
             _ => Ok(()),
         }
     }
 
     /// Looks for what an alarm speaks of in commands.
     #[cycle(look)]
-    fn look_into(
-        &mut self,
-        levels: usize,
-        index: usize,
-        wanted: Wanted<'_>,
-        commands: &[Command],
-    ) -> Result<(), AllocError> {
+    fn look_into(&mut self, levels: usize, sought: Sought<'_>, commands: &[Command]) -> Result<()> {
         if levels == 0 {
-            return self.ask(index, Err(Lost::Untold));
+            return self.ask(sought.index, Err(Lost::Untold));
         }
         let fewer = levels - 1;
         for command in commands {
             let operands = command.operands.as_slice();
-            self.look_call(fewer, index, wanted, operands)?;
+            self.look_call(fewer, sought, operands)?;
             for operand in operands {
-                self.look_operand(fewer, index, wanted, operand)?;
+                self.look_operand(fewer, sought, operand)?;
             }
         }
         Ok(())
@@ -351,65 +320,50 @@ impl<'w> Walk<'w> {
 
     /// Looks for what an alarm speaks of in an operand.
     #[cycle(look)]
-    fn look_operand(
-        &mut self,
-        levels: usize,
-        index: usize,
-        wanted: Wanted<'_>,
-        operand: &Operand,
-    ) -> Result<(), AllocError> {
+    fn look_operand(&mut self, levels: usize, sought: Sought<'_>, operand: &Operand) -> Result<()> {
         let (start, fields) = match operand {
-            Operand::Fields(fields) => (self.dot(), fields),
+            Operand::Fields(fields) => (copy(&self.dot), fields),
             Operand::Variable { name, fields } => (self.variable(name.as_slice()), fields),
             Operand::Group { commands, fields } => {
-                self.look_into(levels, index, wanted, commands.as_slice())?;
+                self.look_into(levels, sought, commands.as_slice())?;
                 (self.pipeline(levels, commands.as_slice()), fields)
             }
             _ => return Ok(()),
         };
-        self.look_at(index, wanted, start, fields.as_slice())
+        self.look_at(sought, start, fields.as_slice())
     }
 
     /// Looks for what the alarms speak of in the pipeline of an action that begins after this many bytes, which may be
-    /// that of a range.
-    fn look(
-        &mut self,
-        start: usize,
-        commands: &[Command],
-        is_range: bool,
-    ) -> Result<(), AllocError> {
+    /// that of a range. Gives where its value comes from.
+    fn value(&mut self, at: usize, pipeline: &Pipeline, is_range: bool) -> Result<Option<Origin>> {
+        let commands = pipeline.commands.as_slice();
         let doubts = self.doubts;
         for (index, doubt) in doubts.iter().enumerate() {
-            if doubt.start == start && doubt.template.as_slice() == self.name {
-                match &doubt.cause {
-                    Cause::Range(_) if is_range => {
-                        let found = self.pipeline(LEVELS, commands);
-                        self.ask(index, found)?;
-                    }
-                    cause => {
-                        if let Some(wanted) = Wanted::of(cause) {
-                            self.look_into(LEVELS, index, wanted, commands)?;
-                        }
-                    }
-                }
+            if doubt.start != at || doubt.template.as_slice() != self.name {
+                continue;
+            }
+            if is_range && matches!(doubt.cause, Cause::Range(_)) {
+                let found = self.pipeline(LEVELS, commands);
+                self.ask(index, found)?;
+            } else if let Some(sought) = Sought::of(index, &doubt.cause) {
+                self.look_into(LEVELS, sought, commands)?;
             }
         }
-        Ok(())
+        if_told(self.pipeline(LEVELS, commands))
     }
 
     /// Puts a variable into scope.
-    fn declare(&mut self, name: &'w [u8], origin: &Option<Origin>) -> Result<(), AllocError> {
+    fn declare(&mut self, name: &'w [u8], origin: &Option<Origin>) -> Result<()> {
         if self.scope.len() >= MOST_VARIABLES {
             self.is_crowded = true;
             return Ok(());
         }
-        let origin = copy_known(self.document, origin)?;
-        self.scope.push(Source { name, origin })?;
-        Ok(())
+        let origin = origin.clone()?;
+        Ok(self.scope.push(Source { name, origin })?)
     }
 
     /// Binds the variables of a header to a value.
-    fn bind(&mut self, binding: &'w Binding, origin: &Option<Origin>) -> Result<(), AllocError> {
+    fn bind(&mut self, binding: &'w Binding, origin: &Option<Origin>) -> Result<()> {
         match binding {
             Binding::Declare(name) => self.declare(name.as_slice(), origin),
             Binding::DeclarePair(pair) => {
@@ -422,7 +376,7 @@ impl<'w> Walk<'w> {
 
     /// Visits nodes, and forgets the variables that they declare.
     #[cycle(nodes)]
-    fn nodes(&mut self, levels: usize, nodes: &'w [Node]) -> Result<(), AllocError> {
+    fn nodes(&mut self, levels: usize, nodes: &'w [Node]) -> Result<()> {
         if levels == 0 {
             return Ok(());
         }
@@ -437,61 +391,39 @@ impl<'w> Walk<'w> {
 
     /// Visits a node.
     #[cycle(nodes)]
-    fn node(&mut self, levels: usize, node: &'w Node) -> Result<(), AllocError> {
+    fn node(&mut self, levels: usize, node: &'w Node) -> Result<()> {
         match &node.what {
             NodeKind::Text(_) | NodeKind::Break | NodeKind::Continue => Ok(()),
             NodeKind::Action(header) => {
-                let origin = self.header(node.start, header, false)?;
+                let origin = self.value(node.start, &header.pipeline, false)?;
                 self.bind(&header.binding, &origin)
             }
             NodeKind::Control(control) => self.control(levels, node.start, control),
-            NodeKind::Template(name, Some(pipeline)) => {
-                let commands = pipeline.commands.as_slice();
-                self.look(node.start, commands, false)?;
-                let origin = if_told(self.pipeline(LEVELS, commands))?;
+            NodeKind::Template(name, pipeline) => {
+                let origin = match pipeline {
+                    Some(pipeline) => self.value(node.start, pipeline, false)?,
+                    None => None,
+                };
                 let name = name.as_slice();
-                self.handed.push(Source { name, origin })?;
-                Ok(())
-            }
-            NodeKind::Template(name, None) => {
-                let name = name.as_slice();
-                self.handed.push(Source { name, origin: None })?;
-                Ok(())
+                Ok(self.handed.push(Source { name, origin })?)
             }
         }
     }
 
-    /// Looks at a header, and gives where its value comes from.
-    fn header(
-        &mut self,
-        start: usize,
-        header: &'w Header,
-        is_range: bool,
-    ) -> Result<Option<Origin>, AllocError> {
-        let commands = header.pipeline.commands.as_slice();
-        self.look(start, commands, is_range)?;
-        if_told(self.pipeline(LEVELS, commands))
-    }
-
     /// Visits a control.
     #[cycle(nodes)]
-    fn control(
-        &mut self,
-        levels: usize,
-        start: usize,
-        control: &'w ControlNode,
-    ) -> Result<(), AllocError> {
+    fn control(&mut self, levels: usize, start: usize, control: &'w ControlNode) -> Result<()> {
         let mark = self.scope.len();
         let is_range = control.control == Control::Range;
-        let value = self.header(start, &control.header, is_range)?;
+        let value = self.value(start, &control.header.pipeline, is_range)?;
         let inside = match &value {
             Some(origin) if is_range => if_told(self.document.elements(origin))?,
-            _ => copy_known(self.document, &value)?,
+            _ => value.clone()?,
         };
         self.bind(&control.header.binding, &inside)?;
         let dot = match control.control {
-            Control::If => copy_known(self.document, &self.dot)?,
-            _ => copy_known(self.document, &inside)?,
+            Control::If => self.dot.clone()?,
+            _ => inside.clone()?,
         };
         let before = mem::replace(&mut self.dot, dot);
         self.nodes(levels, control.body.as_slice())?;
@@ -506,7 +438,7 @@ impl<'w> Walk<'w> {
 }
 
 /// Adds a name that is not there yet, up to as many as are followed.
-fn add_name<'w>(name: &'w [u8], names: &mut Vec<&'w [u8]>) -> Result<(), AllocError> {
+fn add_name<'w>(name: &'w [u8], names: &mut Vec<&'w [u8]>) -> Result<()> {
     if names.len() < MOST_VARIABLES && !names.iter().any(|other| *other == name) {
         names.push(name)?;
     }
@@ -514,32 +446,22 @@ fn add_name<'w>(name: &'w [u8], names: &mut Vec<&'w [u8]>) -> Result<(), AllocEr
 }
 
 /// Adds the names of the variables that nodes assign.
-fn add_assigned<'w>(
-    levels: usize,
-    nodes: &'w [Node],
-    names: &mut Vec<&'w [u8]>,
-) -> Result<(), AllocError> {
+fn add_assigned<'w>(levels: usize, nodes: &'w [Node], names: &mut Vec<&'w [u8]>) -> Result<()> {
     if levels == 0 {
         return Ok(());
     }
     let fewer = levels - 1;
     for node in nodes {
         let header = match &node.what {
-            NodeKind::Action(header) => Some(header),
+            NodeKind::Action(header) => header,
             NodeKind::Control(control) => {
                 add_assigned(fewer, control.body.as_slice(), names)?;
                 add_assigned(fewer, control.other.as_slice(), names)?;
-                Some(&control.header)
+                &control.header
             }
-            _ => None,
+            _ => continue,
         };
-        if let Some(
-            Header {
-                binding: Binding::Assign(name),
-                ..
-            },
-        ) = header
-        {
+        if let Binding::Assign(name) = &header.binding {
             add_name(name.as_slice(), names)?;
         }
     }
@@ -550,10 +472,10 @@ fn add_assigned<'w>(
 fn walked<'w>(
     document: Document<'w>,
     doubts: &'w [Doubt],
-    asked: Vec<Asked>,
+    asked: Vec<Option<Origin>>,
     dot: &Source<'w>,
     tree: &'w Tree,
-) -> Result<Walk<'w>, AllocError> {
+) -> Result<Walk<'w>> {
     let alloc = document.alloc;
     let mut assigned = Vec::new(alloc);
     add_assigned(MOST_CONTROLS, tree.nodes.as_slice(), &mut assigned)?;
@@ -563,7 +485,7 @@ fn walked<'w>(
         doubts,
         asked,
         handed: Vec::new(alloc),
-        dot: copy_known(document, &dot.origin)?,
+        dot: dot.origin.clone()?,
         scope: Vec::new(alloc),
         is_crowded: assigned.len() >= MOST_VARIABLES,
         assigned,
@@ -574,15 +496,11 @@ fn walked<'w>(
 }
 
 /// Notes what is handed to a template. Gives whether that is more than was known.
-fn hand<'w>(
-    document: Document<'w>,
-    dots: &mut Vec<Source<'w>>,
-    handed: Source<'w>,
-) -> Result<bool, AllocError> {
+fn hand<'w>(dots: &mut Vec<Source<'w>>, handed: Source<'w>) -> Result<bool> {
     let place = dots.iter().position(|dot| dot.name == handed.name);
     let is_full = dots.len() >= MOST_TEMPLATES;
     match place.and_then(|place| dots.get_mut(place)) {
-        Some(dot) => widen(document, &mut dot.origin, &handed.origin),
+        Some(dot) => widen(&mut dot.origin, &handed.origin),
         None if is_full => Ok(false),
         None => {
             dots.push(handed)?;
@@ -592,12 +510,7 @@ fn hand<'w>(
 }
 
 /// Visits each template that is reached once. Gives whether more was found to be passed.
-fn round<'w>(
-    document: Document<'w>,
-    set: &'w Set,
-    dots: &mut Vec<Source<'w>>,
-) -> Result<bool, AllocError> {
-    let none: &[Doubt] = &[];
+fn round<'w>(document: Document<'w>, set: &'w Set, dots: &mut Vec<Source<'w>>) -> Result<bool> {
     let mut is_more = false;
     for index in 0..=set.len() {
         let Some(dot) = dots.get(index) else {
@@ -606,12 +519,9 @@ fn round<'w>(
         let Some(tree) = set.get(dot.name) else {
             continue;
         };
-        let walk = walked(document, none, Vec::new(document.alloc), dot, tree)?;
-        let Walk { handed, .. } = walk;
+        let Walk { handed, .. } = walked(document, &[], Vec::new(document.alloc), dot, tree)?;
         for source in handed.into_iter() {
-            if hand(document, dots, source)? {
-                is_more = true;
-            }
+            is_more |= hand(dots, source)?;
         }
     }
     Ok(is_more)
@@ -623,14 +533,11 @@ pub(crate) fn asked_of<'w>(
     set: &'w Set,
     name: &'w [u8],
     doubts: &'w [Doubt],
-) -> Result<Vec<Asked>, AllocError> {
+) -> Result<Vec<Option<Origin>>> {
     let alloc = document.alloc;
-    let mut dots: Vec<Source<'w>> = Vec::new(alloc);
-    dots.push(Source {
-        name,
-        origin: if_told(Origin::whole(alloc))?,
-    })?;
-    let mut asked: Vec<Asked> = Vec::new(alloc);
+    let origin = if_told(Origin::whole(alloc))?;
+    let mut dots = vec![in alloc; Source { name, origin }]?;
+    let mut asked = Vec::new(alloc);
     for rounds in 0..MOST_ROUNDS {
         if !round(document, set, &mut dots)? {
             break;
@@ -643,14 +550,11 @@ pub(crate) fn asked_of<'w>(
         return Ok(asked);
     }
     for _ in doubts {
-        asked.push(Asked {
-            origin: Some(Origin::new(alloc)),
-        })?;
+        asked.push(Some(Origin::new(alloc)))?;
     }
     for dot in dots.as_slice() {
         if let Some(tree) = set.get(dot.name) {
-            let walk = walked(document, doubts, asked, dot, tree)?;
-            let Walk { asked: more, .. } = walk;
+            let Walk { asked: more, .. } = walked(document, doubts, asked, dot, tree)?;
             asked = more;
         }
     }

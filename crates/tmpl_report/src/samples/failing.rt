@@ -12,10 +12,11 @@ ghost use Rattle.tmpl_engine.specs.Reason.{cause_text};
 ghost use Rattle.tmpl_engine.specs.View.{templates_in};
 ghost use Rattle.tmpl_engine.specs.declared.error.RenderError.{RenderError};
 ghost use Rattle.tmpl_schema.specs.Safe.{MayEnd};
-ghost use Rattle.tmpl_report.specs.Failing.{AreRight, IsDoubted, IsRight, Speaks, fault_over, is_no_entry, rules_by};
+ghost use Rattle.tmpl_report.specs.Failing.{AreRight, IsDoubted, IsRight, Speaks, fault_over, rules_by};
 ghost use Rattle.tmpl_json_schema.specs.Document.{IsOfSchema};
 ghost use Rattle.tmpl_report.specs.computed.Asked.{asked_in};
 
+use crate::Result;
 use serde_json::Value;
 use std::alloc::{AllocError, Global};
 use std::str::from_utf8;
@@ -39,7 +40,7 @@ pub(crate) const MOST_TEXT: usize = 1_000_000;
 const MOST_SHOWN: usize = 500;
 
 /// What is asked: a template of a set, the document that its data conform to, and what may be a fault.
-#[derive(Clone, Copy)]
+#[derive(Drop)]
 pub(crate) struct Question<'q> {
     pub(crate) alloc: Global,
     pub(crate) renderer: &'q Renderer,
@@ -69,13 +70,6 @@ pub(crate) struct Nowhere {
 }
 
 impl Nowhere {
-    /// One that takes as much as a render writes.
-    pub(crate) fn new() -> Nowhere
-        ensures { result.failures ≡ 0 }
-    {
-        Nowhere::of(MOST_TEXT)
-    }
-
     /// One that takes as many bytes.
     pub(crate) fn of(room: usize) -> Nowhere
         ensures { result.failures ≡ 0 }
@@ -117,12 +111,10 @@ fn is_caused(cause: &Cause, kind: &RunFaultKind<'_>, stops: &[Bytes]) -> bool
     ensures not_allowed { result ≡ true → ¬ (MayEnd stops.now (cause_of kind.now)) }
 {
     match (cause, kind) {
-        (Cause::Absent(name), RunFaultKind::NoEntry(field) | RunFaultKind::NoField(field)) => {
-            name.as_slice() == *field
-        }
-        (Cause::NoFields(name, _), RunFaultKind::NoEntry(field) | RunFaultKind::NoField(field)) => {
-            name.as_slice() == *field
-        }
+        (
+            Cause::Absent(name) | Cause::NoFields(name, _),
+            RunFaultKind::NoEntry(field) | RunFaultKind::NoField(field),
+        ) => name.as_slice() == *field,
         (
             Cause::Arguments(func) | Cause::FewItems(func, _) | Cause::NotFollowed(func),
             RunFaultKind::Call(other, _),
@@ -147,7 +139,7 @@ pub(crate) fn is_doubted(doubt: &Doubt, fault: &RunFault<'_>, stops: &[Bytes]) -
 }
 
 /// What `tmpl` says of a fault, after the file, the line and the template.
-pub(crate) fn said_of(alloc: Global, kind: &RunFaultKind<'_>) -> Result<String, AllocError>
+pub(crate) fn said_of(alloc: Global, kind: &RunFaultKind<'_>) -> Result<String>
     ensures { IfOk result (λ said. IsUtf8 (cause_text (cause_of kind.now))
         → string_bytes said ≡ cause_text (cause_of kind.now)) }
 {
@@ -184,12 +176,12 @@ impl Question<'_> {
     }
 
     /// The fault of the run over data, if it has one.
-    fn fault<'a>(&'a self, tree: &'a Data) -> Result<Option<RunFault<'a>>, AllocError>
+    fn fault<'a>(&'a self, tree: &'a Data) -> Result<Option<RunFault<'a>>>
         ensures { IfOk result (λ found. IfSome found (λ fault.
             fault_over (rules_by self.now.mode) (templates_in self.now.renderer.now) self.now.name.now
             (value_of tree.now) ≡ Some (fault_seen fault))) }
     {
-        match self.render(tree, &mut Nowhere::new()) {
+        match self.render(tree, &mut Nowhere::of(MOST_TEXT)) {
             Err(RenderError::Fault(fault)) => Ok(Some(fault)),
             Err(RenderError::OutOfMemory) => Err(AllocError),
             _ => Ok(None),
@@ -197,10 +189,7 @@ impl Question<'_> {
     }
 
     /// The failure of each alarm for the value that was found for it, where that makes the template fail there.
-    pub(crate) fn failures(
-        &self,
-        values: Vec<Option<Value>>,
-    ) -> Result<Vec<Option<Failure>>, AllocError>
+    pub(crate) fn failures(&self, values: Vec<Option<Value>>) -> Result<Vec<Option<Failure>>>
         ensures { IfOk result (λ failures. AreRight (asked_in self.now) self.now.doubts.now failures.items) }
     {
         let mut values = values.into_iter();
@@ -214,7 +203,7 @@ impl Question<'_> {
 
     /// The failure of an alarm for a value, if there is one, its text is short, it conforms to the schema, and it makes
     /// the template fail there.
-    fn failure(&self, doubt: &Doubt, value: Option<Value>) -> Result<Option<Failure>, AllocError>
+    fn failure(&self, doubt: &Doubt, value: Option<Value>) -> Result<Option<Failure>>
         ensures { IfOk result (λ found. IfSome found (IsRight (asked_in self.now) doubt.now)) }
     {
         let Some(value) = value else {
@@ -232,7 +221,7 @@ impl Question<'_> {
     }
 
     /// Whether the value of this text conforms to the schema.
-    fn is_of_schema(&self, text: &str) -> Result<bool, AllocError>
+    fn is_of_schema(&self, text: &str) -> Result<bool>
         ensures { IfOk result (λ is_of. is_of ≡ true → (v : tree.Value) → data_of text.now ≡ Ok v
             → IsOfSchema (view self.now.root.now) v) }
     {
@@ -244,37 +233,15 @@ impl Question<'_> {
     }
 
     /// The failure of an alarm for the data that this text is, if they make the template fail there.
-    fn failure_over(
-        &self,
-        doubt: &Doubt,
-        tree: &Data,
-        text: String,
-    ) -> Result<Option<Failure>, AllocError>
+    fn failure_over(&self, doubt: &Doubt, tree: &Data, text: String) -> Result<Option<Failure>>
         requires value { data_of (string_bytes text) ≡ Ok (value_of tree.now) }
         requires conforms { IsOfSchema (view self.now.root.now) (value_of tree.now) }
         ensures { IfOk result (λ found. IfSome found (IsRight (asked_in self.now) doubt.now)) }
     {
-        match self.fault(tree)? {
-            Some(fault) => self.failure_by(doubt, &fault, text),
-            None => Ok(None),
-        }
-    }
-
-    /// The failure of an alarm for the data of this text, if it speaks of the fault over them.
-    fn failure_by(
-        &self,
-        doubt: &Doubt,
-        fault: &RunFault<'_>,
-        text: String,
-    ) -> Result<Option<Failure>, AllocError>
-        ensures { IfOk result (λ found. IfSome found (λ failure. (failure.data ≡ text)
-            × IsDoubted doubt.now (fault_seen fault.now)
-            × ¬ (MayEnd self.now.stops.now (fault_seen fault.now).cause)
-            × (failure.is_strict ≡ is_no_entry (fault_seen fault.now).cause)
-            × (IsUtf8 (cause_text (fault_seen fault.now).cause)
-            → string_bytes failure.said ≡ cause_text (fault_seen fault.now).cause))) }
-    {
-        if !is_doubted(doubt, fault, self.stops) {
+        let Some(fault) = self.fault(tree)? else {
+            return Ok(None);
+        };
+        if !is_doubted(doubt, &fault, self.stops) {
             return Ok(None);
         }
         Ok(Some(Failure {

@@ -5,6 +5,7 @@ ghost use Rattle.tmpl_meaning.specs.declared.missing_key.MissingKey.{MissingKey}
 ghost use Rattle.tmpl_syntax.specs.View.{set_view};
 ghost use Rattle.tmpl_report.specs.Failing.{AreRight, rules_by};
 
+use crate::Result;
 use crate::samples::failing::{Failure, MOST_TEXT, Nowhere, Question, is_doubted};
 use crate::samples::smaller::without;
 use serde_json::Value;
@@ -40,29 +41,19 @@ const LINE: u64 = 10_000_000;
 /// The most bytes of a value that is rendered.
 const MOST_BYTES: usize = 100_000;
 
-/// A value for which an alarm is right, before it is made smaller.
-#[derive(Drop)]
-struct Case {
-    value: Value,
-    /// How many bytes its text has.
-    size: usize,
-}
-
-/// How far a run comes, over how many bytes, how many it prints, and the number of the alarm that it shows to be right,
-/// if it shows one.
+/// How far a run comes, how many bytes it reads and prints, and the number of the alarm that it shows to be right, if it
+/// shows one.
 #[derive(Clone, Copy)]
 struct Outcome {
     progress: u64,
-    size: usize,
-    text: usize,
+    bytes: usize,
     shown: Option<usize>,
 }
 
 /// That of a value that is not rendered.
 const NO_RUN: Outcome = Outcome {
     progress: 0,
-    size: 0,
-    text: 0,
+    bytes: 0,
     shown: None,
 };
 
@@ -78,10 +69,7 @@ impl Budget {
     fn after(self, outcome: Outcome) -> Budget {
         Budget {
             renders: self.renders.saturating_sub(1),
-            bytes: self
-                .bytes
-                .saturating_sub(outcome.size)
-                .saturating_sub(outcome.text),
+            bytes: self.bytes.saturating_sub(outcome.bytes),
         }
     }
 
@@ -98,10 +86,11 @@ struct Trial {
     progress: u64,
 }
 
-/// What was found for each alarm, and how much may still be done.
+/// A search: for each alarm a value for which it is right, and how much may still be done.
 #[derive(Drop)]
-struct Hunt {
-    cases: Vec<Option<Case>>,
+struct Hunt<'h, 'q> {
+    question: &'h Question<'q>,
+    cases: Vec<Option<Value>>,
     missing: usize,
     budget: Budget,
     work: usize,
@@ -110,7 +99,7 @@ struct Hunt {
 impl Question<'_> {
     /// Renders the template over a value, if that conforms. Gives what comes of it: of one alarm alone, where it is
     /// asked for.
-    fn outcome(&self, value: &Value, only: Option<usize>) -> Result<Outcome, AllocError> {
+    fn outcome(&self, value: &Value, only: Option<usize>) -> Result<Outcome> {
         if !conforms(self.root, LEVELS, self.root, value) {
             return Ok(NO_RUN);
         }
@@ -118,46 +107,33 @@ impl Question<'_> {
         if data.len() > MOST_BYTES {
             return Ok(NO_RUN);
         }
-        match Data::from_json(self.alloc, data.as_bytes()) {
-            Ok(tree) => self.outcome_over(&tree, data.len(), only),
-            Err(DataFault::OutOfMemory) => Err(AllocError),
-            Err(_) => Ok(NO_RUN),
-        }
-    }
-
-    fn outcome_over(
-        &self,
-        tree: &Data,
-        size: usize,
-        only: Option<usize>,
-    ) -> Result<Outcome, AllocError> {
-        let mut out = Nowhere::new();
-        let ended = self.render(tree, &mut out);
+        let tree = match Data::from_json(self.alloc, data.as_bytes()) {
+            Ok(tree) => tree,
+            Err(DataFault::OutOfMemory) => return Err(AllocError),
+            Err(_) => return Ok(NO_RUN),
+        };
+        let mut out = Nowhere::of(MOST_TEXT);
+        let ended = self.render(&tree, &mut out);
         let text = MOST_TEXT.saturating_sub(out.room);
+        let bytes = data.len().saturating_add(text);
         match ended {
             Err(RenderError::Fault(fault)) => {
-                let line = if fault.template == self.name {
-                    fault.line
-                } else {
-                    0
-                };
+                let is_own = fault.template == self.name;
+                let line = if is_own { fault.line } else { 0 };
                 Ok(Outcome {
                     progress: line.saturating_mul(LINE).saturating_add(text as u64),
-                    size,
-                    text,
                     shown: self.right_doubt(&fault, only),
+                    bytes,
                 })
             }
             Err(RenderError::OutOfMemory) => Err(AllocError),
             Ok(()) => Ok(Outcome {
                 progress: END,
-                size,
-                text,
+                bytes,
                 shown: None,
             }),
             Err(RenderError::NoTemplate | RenderError::WriteFailed) => Ok(Outcome {
-                size,
-                text,
+                bytes,
                 ..NO_RUN
             }),
         }
@@ -165,64 +141,68 @@ impl Question<'_> {
 
     /// The number of the first alarm that a fault shows to be right, or of one of them alone.
     fn right_doubt(&self, fault: &RunFault<'_>, only: Option<usize>) -> Option<usize> {
-        for (index, doubt) in self.doubts.iter().enumerate() {
-            let is_asked = only.is_none() || only == Some(index);
-            if is_asked && is_doubted(doubt, fault, self.stops) {
-                return Some(index);
-            }
-        }
-        None
+        self.doubts.iter().enumerate().position(|(index, doubt)| {
+            (only.is_none() || only == Some(index)) && is_doubted(doubt, fault, self.stops)
+        })
     }
 
-    /// Makes the value of these choices, and renders the template over it.
-    fn try_flips(
-        &self,
-        hunt: &mut Hunt,
-        is_lean: bool,
-        flips: &[Flip],
-    ) -> Result<Trial, AllocError> {
-        let mut draw = Draw::new(self.alloc, self.root, is_lean, flips);
-        let drawn = draw.whole()?;
-        hunt.work = hunt.work.saturating_sub(draw.parts);
-        let Draw { counts, .. } = draw;
-        let Some(value) = drawn else {
-            hunt.budget = hunt.budget.after(NO_RUN);
-            return Ok(Trial {
-                counts,
-                progress: 0,
-            });
-        };
-        let outcome = self.outcome(&value, None)?;
-        hunt.budget = hunt.budget.after(outcome);
-        if let Some(doubt) = outcome.shown {
-            let size = outcome.size;
-            hunt.keep(doubt, Case { value, size });
+    /// The value of an alarm, made smaller as long as the template fails in the same way.
+    fn smaller(&self, index: usize, value: Value, budget: &mut Budget) -> Result<Value> {
+        let mut smallest = value;
+        let mut part: usize = 1;
+        for _ in 0..MOST_SMALLER {
+            if budget.is_spent() {
+                break;
+            }
+            let mut left = part;
+            let value = without(self.alloc, &smallest, &mut left)?;
+            if left > 0 {
+                break;
+            }
+            let outcome = self.outcome(&value, Some(index))?;
+            *budget = budget.after(outcome);
+            match outcome.shown {
+                Some(_) => smallest = value,
+                None => part = part.saturating_add(1),
+            }
         }
-        Ok(Trial {
-            counts,
-            progress: outcome.progress,
-        })
+        Ok(smallest)
+    }
+}
+
+impl Hunt<'_, '_> {
+    /// Makes the value of these choices, and renders the template over it.
+    fn try_flips(&mut self, is_lean: bool, flips: &[Flip]) -> Result<Trial> {
+        let mut draw = Draw::new(self.question.alloc, self.question.root, is_lean, flips);
+        let drawn = draw.whole()?;
+        self.work = self.work.saturating_sub(draw.parts);
+        let Draw { counts, .. } = draw;
+        let outcome = match &drawn {
+            Some(value) => self.question.outcome(value, None)?,
+            None => NO_RUN,
+        };
+        self.budget = self.budget.after(outcome);
+        if let (Some(value), Some(doubt)) = (drawn, outcome.shown) {
+            self.keep(doubt, value);
+        }
+        let progress = outcome.progress;
+        Ok(Trial { counts, progress })
     }
 
     /// Tries each other choice at each point beside these, and adds to them the one with which the template comes
     /// farther, if there is one.
-    fn sweep(
-        &self,
-        hunt: &mut Hunt,
-        is_lean: bool,
-        flips: &mut Vec<Flip>,
-    ) -> Result<bool, AllocError> {
-        let Trial { counts, progress } = self.try_flips(hunt, is_lean, flips.as_slice())?;
+    fn sweep(&mut self, is_lean: bool, flips: &mut Vec<Flip>) -> Result<bool> {
+        let Trial { counts, progress } = self.try_flips(is_lean, flips.as_slice())?;
         let mut best = progress;
         let mut better: Option<Flip> = None;
         for (point, count) in counts.iter().enumerate() {
             for away in 1..*count {
-                if hunt.is_done() {
+                if self.is_done() {
                     return Ok(false);
                 }
                 let flip = Flip { point, away };
                 flips.push(flip)?;
-                let Trial { progress, .. } = self.try_flips(hunt, is_lean, flips.as_slice())?;
+                let Trial { progress, .. } = self.try_flips(is_lean, flips.as_slice())?;
                 let _ = flips.pop();
                 if progress > best {
                     best = progress;
@@ -230,107 +210,71 @@ impl Question<'_> {
                 }
             }
         }
-        match better {
-            Some(flip) => {
-                flips.push(flip)?;
-                Ok(true)
-            }
-            None => Ok(false),
+        if let Some(flip) = better {
+            flips.push(flip)?;
         }
+        Ok(better.is_some())
     }
 
     /// Goes from value to value over which the template comes farther, and looks around each; at last two steps.
-    fn climb(&self, hunt: &mut Hunt, is_lean: bool) -> Result<(), AllocError> {
-        let mut flips: Vec<Flip> = Vec::new(self.alloc);
+    fn climb(&mut self, is_lean: bool) -> Result<()> {
+        let mut flips: Vec<Flip> = Vec::new(self.question.alloc);
         for _ in 0..MOST_ROUNDS {
-            if !self.sweep(hunt, is_lean, &mut flips)? {
+            if !self.sweep(is_lean, &mut flips)? {
                 break;
             }
         }
-        let Trial { counts, .. } = self.try_flips(hunt, is_lean, flips.as_slice())?;
+        let Trial { counts, .. } = self.try_flips(is_lean, flips.as_slice())?;
         for (point, count) in counts.iter().enumerate() {
             for away in 1..*count {
-                if hunt.is_done() {
+                if self.is_done() {
                     return Ok(());
                 }
                 flips.push(Flip { point, away })?;
-                self.sweep(hunt, is_lean, &mut flips)?;
+                self.sweep(is_lean, &mut flips)?;
                 let _ = flips.pop();
             }
         }
         Ok(())
     }
 
-    /// The value of an alarm, made smaller as long as the template fails in the same way.
-    fn smaller(&self, index: usize, case: Case, budget: &mut Budget) -> Result<Value, AllocError> {
-        let mut case = case;
-        let mut part: usize = 1;
-        for _ in 0..MOST_SMALLER {
-            if budget.is_spent() {
-                break;
-            }
-            let mut left = part;
-            let value = without(self.alloc, &case.value, &mut left)?;
-            if left > 0 {
-                break;
-            }
-            let outcome = self.outcome(&value, Some(index))?;
-            *budget = budget.after(outcome);
-            let size = outcome.size;
-            match outcome.shown {
-                Some(_) => case = Case { value, size },
-                None => part = part.saturating_add(1),
-            }
-        }
-        let Case { value, .. } = case;
-        Ok(value)
-    }
-}
-
-impl Hunt {
     /// Whether each alarm has a value, or enough was done.
     fn is_done(&self) -> bool {
         self.missing == 0 || self.work == 0 || self.budget.is_spent()
     }
 
     /// Keeps a value for the alarm of this number, unless there is one.
-    fn keep(&mut self, doubt: usize, case: Case) {
+    fn keep(&mut self, doubt: usize, value: Value) {
         if let Some(place) = self.cases.get_mut(doubt) {
             if place.is_none() {
-                *place = Some(case);
+                *place = Some(value);
                 self.missing = self.missing.saturating_sub(1);
             }
         }
     }
 }
 
-/// What is searched for at first: nothing was found.
-fn new_hunt(question: &Question<'_>) -> Result<Hunt, AllocError> {
-    let mut cases = Vec::new(question.alloc);
-    let mut missing: usize = 0;
-    for doubt in question.doubts {
-        cases.push(None)?;
-        if !matches!(&doubt.cause, Cause::Variables) {
-            missing = missing.saturating_add(1);
-        }
-    }
-    Ok(Hunt {
-        cases,
-        missing,
+/// Searches for a value for each alarm, first from little data, then from much, and makes it smaller.
+fn values_found(question: &Question<'_>) -> Result<Vec<Option<Value>>> {
+    let mut hunt = Hunt {
+        question,
+        cases: Vec::new(question.alloc),
+        missing: 0,
         budget: Budget {
             renders: MOST_TRIES,
             bytes: MOST_SEARCHED,
         },
         work: MOST_WORK,
-    })
-}
-
-/// Searches for a value for each alarm, first from little data, then from much, and makes it smaller.
-fn values_found(question: &Question<'_>) -> Result<Vec<Option<Value>>, AllocError> {
-    let mut hunt = new_hunt(question)?;
-    question.climb(&mut hunt, true)?;
+    };
+    for doubt in question.doubts {
+        hunt.cases.push(None)?;
+        if !matches!(doubt.cause, Cause::Variables) {
+            hunt.missing = hunt.missing.saturating_add(1);
+        }
+    }
+    hunt.climb(true)?;
     hunt.budget.renders = MOST_TRIES;
-    question.climb(&mut hunt, false)?;
+    hunt.climb(false)?;
     let Hunt { cases, .. } = hunt;
     let mut values = Vec::new(question.alloc);
     let mut budget = Budget {

@@ -1,15 +1,12 @@
 //! Smaller values.
 
+use crate::Result;
 use serde_json::{Map, Value, put};
-use std::alloc::{AllocError, Global};
+use std::alloc::Global;
 
 /// The value without the part of this number: members and items are counted as they come, and those in them after each.
 /// The number is left with what is not counted, so it is no more than 0 where a part was left out.
-pub(crate) fn without(
-    alloc: Global,
-    value: &Value,
-    number: &mut usize,
-) -> Result<Value, AllocError> {
+pub(crate) fn without(alloc: Global, value: &Value, number: &mut usize) -> Result<Value> {
     match value {
         Value::Array(items) => {
             let mut rest: Vec<Value> = Vec::new(alloc);
@@ -35,7 +32,7 @@ pub(crate) fn without(
 }
 
 /// Counts a part. Gives whether it is the one that is left out.
-fn is_counted_out(number: &mut usize) -> bool {
+pub(crate) fn is_counted_out(number: &mut usize) -> bool {
     let is_last = *number == 1;
     *number = number.saturating_sub(1);
     is_last

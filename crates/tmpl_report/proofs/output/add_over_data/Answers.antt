@@ -1,6 +1,6 @@
 use Rattle.std.proofs.lemmas.Result.{on_ok_weaker}
 use Rattle.tmpl_report.proofs.OutputLemmas.{one-broken}
-use Rattle.tmpl_report.proofs.output.data.add_broken.Goals as goal
+use Rattle.tmpl_report.proofs.output.add_over_data.Goals as goal
 
 pub returns : goal.returns
 returns c =

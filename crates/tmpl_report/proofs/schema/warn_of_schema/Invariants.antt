@@ -1,6 +1,6 @@
 use Rattle.std.proofs.Common.{◌≡◌}
 use Rattle.tmpl_report.specs.Errors.{errors_in}
-use Rattle.tmpl_report.proofs.schema.warn_of_keywords.Given as goal
+use Rattle.tmpl_report.proofs.schema.warn_of_schema.Given as goal
 
 abbrev pub invariant-loop-warning : goal.invariant-loop-warning
-invariant-loop-warning l = errors_in l.findings ≡ errors_in l.initial.findings
+invariant-loop-warning l = errors_in l.findings ≡ errors_in l.fn.findings
