@@ -333,37 +333,11 @@ fn pass_failing(
         failing.old.items failing.new.items) }
     ensures place { IfOk result (λ p. IsPlace file.now p) }
 {
-    let text = failing_words(alloc, tokens)?;
-    push_failing(failing, file, place, opens, text)
-}
-
-/// The message about the action of these tokens, if it has a command that fails at each run that gets to it.
-fn failing_words(alloc: Global, tokens: &[Token<'_>]) -> Result<Option<String>, AllocError>
-    ensures { IfOk result (λ o. is_some o ≡ has_failing (map token_of tokens.now)) }
-{
     let reading = read_action(alloc, tokens)?;
     match failing_in_reading(alloc, &reading)? {
-        Some(found) => Ok(Some(failing_text(alloc, found)?)),
-        None => Ok(None),
-    }
-}
-
-/// Warns of the action that opens there by these words, if there are some. Says up to where columns were counted.
-fn push_failing(
-    failing: &mut Vec<Warning>,
-    file: &[u8],
-    place: Place,
-    opens: usize,
-    text: Option<String>,
-) -> Result<Place, AllocError>
-    requires { IsPlace file.now place }
-    ensures added { OnOk result (AddsFailing file.now opens (is_some text) failing.old.items failing.new.items) }
-    ensures place { IfOk result (λ p. IsPlace file.now p) }
-{
-    match text {
-        Some(text) => {
+        Some(found) => {
             let here = place_in(place, file, opens);
-            failing.push(warning_at(here, text))?;
+            failing.push(warning_at(here, failing_text(alloc, found)?))?;
             Ok(here)
         }
         None => Ok(place),
