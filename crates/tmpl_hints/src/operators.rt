@@ -136,8 +136,7 @@ fn is_inside(kind: TokenKind) -> bool {
 
 /// The bytes up to white space, a brace or a closing parenthesis.
 pub(crate) fn first_word(bytes: &[u8]) -> &[u8] {
-    let blank = bytes.iter().take_while(|b| b.is_ascii_whitespace()).count();
-    let (_, rest) = bytes.split_at(blank);
+    let rest = bytes.trim_ascii_start();
     let taken = rest
         .iter()
         .take_while(|b| !b.is_ascii_whitespace() && !matches!(**b, b'{' | b'}' | b')'))

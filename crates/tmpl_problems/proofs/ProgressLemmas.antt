@@ -28,6 +28,7 @@ use Rattle.tmpl_problems.specs.computed.Adds.{AddsAfter, AddsAll, AddsSign, Adds
 use Rattle.tmpl_problems.specs.computed.Failing.{IsFailing, failing_from}
 use Rattle.tmpl_problems.specs.computed.Follows.{IsRestAfter}
 use Rattle.tmpl_problems.specs.declared.survey.Named.{Named}
+use Rattle.tmpl_problems.specs.declared.survey.Surveyor.{Surveyor}
 use Rattle.tmpl_problems.specs.declared.survey.Variable.{Variable}
 use Rattle.tmpl_problems.specs.declared.survey.Warning.{Warning}
 use Rattle.tmpl_problems.proofs.NotedLemmas.{AreNoted, action-noted, after-keeps, noted-placed, text-declares, text-uses}
@@ -192,6 +193,9 @@ pub record Found : Type 0 where
   pub defined : List Named
   pub called : List Named
   pub variables : List (Bor (List ℕ) × Variable)
+
+abbrev pub found_in : Surveyor → Found
+found_in s = record { warnings = s.warnings.items; failing = s.failing.items; defined = s.defined.items; called = s.called.items; variables = s.variables.entries }
 
 module _ (file : List ℕ) where
   pub record Exact (pieces : List Piece) (f : Found) : Type 0 where

@@ -311,7 +311,12 @@ fn pass_name<'b>(
     match name {
         Some(name) => {
             let here = place_in(place, file, opens);
-            found.push(named_at(name, here))?;
+            found.push(Named {
+                name,
+                start: here.start,
+                line: here.line,
+                column: here.column,
+            })?;
             Ok(here)
         }
         None => Ok(place),
@@ -411,19 +416,6 @@ fn use_variable(variables: &mut Variables<'_>, name: &[u8])
 {
     if let Some(variable) = variables.get_mut(name) {
         variable.is_used = true;
-    }
-}
-
-/// A template that is named at a place.
-fn named_at(name: &[u8], place: Place) -> Named<'_>
-    ensures name { result.name.now ≡ name.now }
-    ensures place { named_place result ≡ place }
-{
-    Named {
-        name,
-        start: place.start,
-        line: place.line,
-        column: place.column,
     }
 }
 
