@@ -116,7 +116,15 @@ fn flaw_of(alloc: Global, spot: Spot<'_, '_>) -> Result<Option<Flaw>, AllocError
         }
         TokenKind::Word => Ok(word_flaw(spot)),
         TokenKind::Field => Ok(field_flaw(spot)),
-        TokenKind::Comma | TokenKind::Declare | TokenKind::Assign => Ok(binding_flaw(spot)),
+        TokenKind::Comma | TokenKind::Declare | TokenKind::Assign => match spot.earlier() {
+            Some(
+                Token {
+                    kind: TokenKind::Variable,
+                    ..
+                },
+            ) => Ok(None),
+            _ => Ok(Some(Flaw::Stray)),
+        },
         TokenKind::Pipe => Ok(bar_flaw(spot)),
         TokenKind::Dot => Ok(operand_flaw(spot)),
         TokenKind::Variable | TokenKind::LeftParenthesis => Ok(joined_flaw(spot)),
@@ -216,14 +224,6 @@ fn may_have_field(kind: TokenKind) -> bool {
         kind,
         TokenKind::Field | TokenKind::Variable | TokenKind::RightParenthesis
     )
-}
-
-/// The flaw of a `,`, `:=` or `=`: these stand after a variable.
-fn binding_flaw(spot: Spot<'_, '_>) -> Option<Flaw> {
-    match spot.earlier() {
-        Some(token) if token.kind == TokenKind::Variable => None,
-        _ => Some(Flaw::Stray),
-    }
 }
 
 /// The flaw of a bar.
