@@ -1,7 +1,7 @@
 //! Commands that fail at each run that gets to them, whatever the data is.
 ghost use Rattle.std.specs.Prelude.{◌≡◌, ◌||◌, false, IfOk, is_some, option_map};
 ghost use Rattle.tmpl_funcs.specs.View.{values_of};
-ghost use Rattle.tmpl_grammar.specs.View.{action_of, commands_in, operand_of, operands_in};
+ghost use Rattle.tmpl_grammar.specs.View.{commands_in, operand_of, operands_in};
 ghost use Rattle.tmpl_grammar.specs.computed.View.{action_reading};
 ghost use Rattle.tmpl_problems.specs.Failing as spec;
 ghost use Rattle.tmpl_problems.specs.computed.Failing.{reading_fails};

@@ -2,7 +2,7 @@
 //! actions that fail at each run that gets to them.
 
 ghost use Rattle.std.specs.Prelude.{◌≡◌, ◌<◌, ◌==◌, ◌&&◌, ℕ, List, [], ◌∷◌, IfOk, IfSome, OnOk};
-ghost use Rattle.std.specs.Prelude.{is_some, length, map, filter, not, option_map, string_bytes};
+ghost use Rattle.std.specs.Prelude.{length, map, filter, not, option_map, string_bytes};
 ghost use Rattle.std.specs.List.{AllZip};
 ghost use Rattle.std.specs.Option.{option_copied};
 ghost use Rattle.tmpl_lex.specs.View.{token_of};
@@ -11,10 +11,10 @@ ghost use Rattle.tmpl_syntax.specs.Column.{IsPlace};
 ghost use Rattle.tmpl_problems.specs.computed.Failing.{Fails, has_failing};
 ghost use Rattle.tmpl_problems.specs.Sign as sign;
 ghost use Rattle.tmpl_problems.specs.Tokens as token;
-ghost use Rattle.tmpl_problems.specs.Survey.{Declared, IsUnused, Names, Warns, callers, definers, is_used, named_place};
+ghost use Rattle.tmpl_problems.specs.Survey.{Declared, IsUnused, Names, Warns, callers, definers, is_used};
 ghost use Rattle.tmpl_problems.specs.Survey.{warned_place};
-ghost use Rattle.tmpl_problems.specs.computed.Adds.{AddsAfter, AddsAll, AddsFailing, AddsName, AddsSign, AddsZip};
-ghost use Rattle.tmpl_problems.specs.computed.Adds.{ArePlaced, FailsAfter, IsNoted, Notes, Passes, PassesAfter, mark, mark_each, note};
+ghost use Rattle.tmpl_problems.specs.computed.Adds.{AddsAll, AddsFailing, AddsName, AddsSign, AddsZip, action_tokens};
+ghost use Rattle.tmpl_problems.specs.computed.Adds.{ArePlaced, IsNoted, Notes, Passes, mark, mark_each, note};
 
 use crate::cure::failing_text;
 use crate::definitions::name_after;
@@ -105,11 +105,22 @@ pub fn survey_file<'b>(
             part.start,
             part.text,
         )?;
-        place = surveyor.pass_after(file, place, part.opens, part.after, tokens.as_slice())?;
+        let action = action_tokens(part.after, tokens.as_slice());
+        place = surveyor.pass_action(file, place, part.opens, action)?;
         match rest_after(file, rest, part) {
             Some(next) => rest = next,
             None => return surveyor.finish(),
         }
+    }
+}
+
+/// The tokens of the action after a text; none where no action stands there.
+fn action_tokens<'t, 'b>(after: AfterText, tokens: &'t [Token<'b>]) -> &'t [Token<'b>]
+    ensures { map token_of result.now ≡ action_tokens after tokens.now }
+{
+    match after {
+        AfterText::Nothing => &[],
+        AfterText::Action(_) | AfterText::Unreadable(_) => tokens,
     }
 }
 
@@ -129,35 +140,6 @@ impl<'b> Surveyor<'b> {
             defined: Vec::new(alloc),
             called: Vec::new(alloc),
             variables: IndexMap::with_hasher(alloc, hash),
-        }
-    }
-
-    /// Notes the templates that the action after a text defines and calls, and the variables that it declares and uses.
-    fn pass_after(
-        &mut self,
-        file: &[u8],
-        place: Place,
-        opens: usize,
-        after: AfterText,
-        tokens: &[Token<'b>],
-    ) -> Result<Place, AllocError>
-        requires { IsPlace file.now place }
-        ensures variables { OnOk result (PassesAfter file.now opens tokens.now after
-            self.old.variables.entries self.new.variables.entries) }
-        ensures warnings { self.new.warnings ≡ self.old.warnings }
-        ensures defined { OnOk result (AddsAfter file.now opens definers tokens.now after
-            self.old.defined.items self.new.defined.items) }
-        ensures called { OnOk result (AddsAfter file.now opens callers tokens.now after
-            self.old.called.items self.new.called.items) }
-        ensures failing { OnOk result (FailsAfter file.now opens tokens.now after
-            self.old.failing.items self.new.failing.items) }
-        ensures place { IfOk result (λ p. IsPlace file.now p) }
-    {
-        match after {
-            AfterText::Nothing => Ok(place),
-            AfterText::Action(_) | AfterText::Unreadable(_) => self.pass_action(
-                file, place, opens, tokens,
-            ),
         }
     }
 
