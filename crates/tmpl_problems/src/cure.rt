@@ -83,9 +83,8 @@ fn say_no_function(
 
 /// Says that a function stands after its first argument, or without parentheses around it and its own.
 fn say_misplaced(said: Sentence, func: Func) -> Sentence {
-    said.say("\"")
-        .say(func.name())
-        .say("\" stands among arguments")
+    said.quote(func.name().as_bytes())
+        .say(" stands among arguments")
 }
 
 /// Says that a function refuses its arguments.
@@ -97,17 +96,13 @@ fn say_refused(
 ) -> Result<Sentence, AllocError> {
     let mut text = Vec::new(alloc);
     print_operands(arguments, &mut text)?;
-    Ok(
-        said.say("\"")
-            .say(func.name())
-            .say("\" refuses ")
-            .show(text.as_slice()),
-    )
+    let said = said.quote(func.name().as_bytes()).say(" refuses ");
+    Ok(said.show(text.as_slice()))
 }
 
 /// Says how many arguments a function takes, and how many it has.
 fn say_counts(said: Sentence, func: Func, count: u64) -> Sentence {
-    let said = said.say("\"").say(func.name()).say("\" takes ");
+    let said = said.quote(func.name().as_bytes()).say(" takes ");
     let takes = (func.takes(1), func.takes(2), func.takes(3), func.takes(4));
     let said = said.say(match takes {
         (true, false, _, _) => "1 argument",
@@ -284,27 +279,18 @@ fn split_before(operands: &[Operand], index: usize) -> Split<'_> {
 /// Writes a command with each function before its arguments, down to this many parentheses.
 #[cycle(write)]
 fn write_command(levels: u64, operands: &[Operand], text: &mut Vec<u8>) -> Result<(), AllocError> {
-    match split_of(operands) {
-        Some(
-            Split {
-                func: Some(func),
-                front,
-                rest,
-            },
-        ) => {
-            text.extend_from_slice(func.name().as_bytes())?;
-            text.extend_from_slice(b" ")?;
-            write_part(levels, front, text)?;
-            text.extend_from_slice(b" ")?;
-            write_part(levels, rest, text)
-        }
-        Some(Split { front, rest, .. }) => {
-            print_operands(front, text)?;
-            text.extend_from_slice(b" ")?;
-            write_part(levels, rest, text)
-        }
-        None => print_operands(operands, text),
+    let Some(split) = split_of(operands) else {
+        return print_operands(operands, text);
+    };
+    if let Some(func) = split.func {
+        text.extend_from_slice(func.name().as_bytes())?;
+        text.extend_from_slice(b" ")?;
+        write_part(levels, split.front, text)?;
+    } else {
+        print_operands(split.front, text)?;
     }
+    text.extend_from_slice(b" ")?;
+    write_part(levels, split.rest, text)
 }
 
 /// Writes operands as one: in parentheses where they are several.
