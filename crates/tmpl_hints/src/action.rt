@@ -106,15 +106,9 @@ pub fn role_named(word: &[u8]) -> Role
 {
     match opening_named(word) {
         Some(opening) => Role::Open(opening),
-        None => {
-            if is_jump(word) {
-                Role::Jump
-            } else if word.starts_with(b"end".as_slice()) {
-                Role::End
-            } else {
-                Role::Plain
-            }
-        }
+        None if is_jump(word) => Role::Jump,
+        None if word.starts_with(b"end".as_slice()) => Role::End,
+        None => Role::Plain,
     }
 }
 

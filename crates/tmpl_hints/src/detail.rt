@@ -22,10 +22,12 @@ pub fn detail_of(alloc: Global, tokens: &[Token<'_>]) -> Result<String, AllocErr
     let Some(first) = significant(tokens, 0) else {
         return said.say("the action is empty").finish();
     };
-    if let Some(flaw) = first_flaw(alloc, tokens)? {
-        return flaw_text(alloc, tokens, flaw);
-    }
-    shape_text(said, first, tokens).finish()
+    let said = match (first_flaw(alloc, tokens)?, unbalanced(tokens)) {
+        (Some((spot, flaw)), _) => flaw_text(said, spot, flaw),
+        (None, Some(words)) => said.say(words),
+        (None, None) => shape_text(said, first.bytes, tokens),
+    };
+    said.finish()
 }
 
 /// What is wrong with a token where it stands.
@@ -41,10 +43,6 @@ enum Flaw {
     Index,
     /// No constant, though it is written as one.
     Constant,
-    /// A `)` that closes nothing.
-    Unopened,
-    /// A `(` that is not closed.
-    Unclosed,
     /// A constant or a dot after a bar.
     AfterBar,
     /// A bar with no command beside it.
@@ -55,149 +53,154 @@ enum Flaw {
     Joined,
 }
 
-/// The first token with a flaw, by its number among all.
-fn first_flaw(alloc: Global, tokens: &[Token<'_>]) -> Result<Option<(usize, Flaw)>, AllocError> {
-    for (index, _) in tokens.iter().enumerate() {
-        if let Some(flaw) = flaw_at(alloc, tokens, index)? {
-            return Ok(Some((index, flaw)));
-        }
-    }
-    Ok(find_unbalanced(tokens))
+/// A token between the others of its action.
+#[derive(Clone, Copy)]
+struct Spot<'t, 'b> {
+    front: &'t [Token<'b>],
+    token: Token<'b>,
+    back: &'t [Token<'b>],
 }
 
-/// The flaw of the token of this number.
-fn flaw_at(alloc: Global, tokens: &[Token<'_>], index: usize) -> Result<Option<Flaw>, AllocError> {
-    let Some(token) = tokens.get(index) else {
-        return Ok(None);
-    };
-    if let Some(operator) = operator_at(tokens, index) {
+impl<'t, 'b> Spot<'t, 'b> {
+    /// The token of this number.
+    fn of(tokens: &'t [Token<'b>], index: usize) -> Option<Spot<'t, 'b>> {
+        let front = tokens.get(..index)?;
+        match tokens.get(index..)? {
+            [token, back @ ..] => Some(Spot {
+                front,
+                token: *token,
+                back,
+            }),
+            [] => None,
+        }
+    }
+
+    /// The nearest token before it that is no white space.
+    fn earlier(self) -> Option<Token<'b>> {
+        self.front
+            .iter()
+            .rev()
+            .find(|token| token.kind != TokenKind::Space)
+            .copied()
+    }
+
+    /// The nearest token after it that is no white space.
+    fn later(self) -> Option<Token<'b>> {
+        significant(self.back, 0)
+    }
+}
+
+/// The first token with a flaw.
+fn first_flaw<'t, 'b>(
+    alloc: Global,
+    tokens: &'t [Token<'b>],
+) -> Result<Option<(Spot<'t, 'b>, Flaw)>, AllocError> {
+    for index in 0..tokens.len() {
+        if let Some(spot) = Spot::of(tokens, index) {
+            if let Some(flaw) = flaw_of(alloc, spot)? {
+                return Ok(Some((spot, flaw)));
+            }
+        }
+    }
+    Ok(None)
+}
+
+/// The flaw of a token.
+fn flaw_of(alloc: Global, spot: Spot<'_, '_>) -> Result<Option<Flaw>, AllocError> {
+    if let Some(operator) = operator_at(spot.token, spot.back) {
         return Ok(Some(Flaw::Operator(operator)));
     }
-    match token.kind {
-        TokenKind::Word => Ok(word_flaw(tokens, index, token.bytes)),
-        TokenKind::Field => Ok(field_flaw(tokens, index, token.bytes)),
+    match spot.token.kind {
         TokenKind::Number | TokenKind::Character | TokenKind::String | TokenKind::RawString => {
-            constant_flaw(alloc, tokens, index)
+            constant_flaw(alloc, spot)
         }
-        TokenKind::Comma | TokenKind::Declare | TokenKind::Assign => {
-            Ok(binding_flaw(tokens, index))
-        }
-        TokenKind::Pipe => Ok(bar_flaw(tokens, index)),
-        TokenKind::LeftParenthesis | TokenKind::RightParenthesis => {
-            Ok(parenthesis_flaw(tokens, index))
-        }
-        TokenKind::Dot => Ok(dot_flaw(tokens, index)),
-        TokenKind::Variable => Ok(joined_flaw(tokens, index)),
-        TokenKind::Space => Ok(None),
+        TokenKind::Word => Ok(word_flaw(spot)),
+        TokenKind::Field => Ok(field_flaw(spot)),
+        TokenKind::Comma | TokenKind::Declare | TokenKind::Assign => match spot.earlier() {
+            Some(
+                Token {
+                    kind: TokenKind::Variable,
+                    ..
+                },
+            ) => Ok(None),
+            _ => Ok(Some(Flaw::Stray)),
+        },
+        TokenKind::Pipe => Ok(bar_flaw(spot)),
+        TokenKind::Dot => Ok(operand_flaw(spot)),
+        TokenKind::Variable | TokenKind::LeftParenthesis => Ok(joined_flaw(spot)),
+        TokenKind::RightParenthesis | TokenKind::Space => Ok(None),
     }
-}
-
-/// The token before this one, white space too.
-fn before<'b>(tokens: &[Token<'b>], index: usize) -> Option<Token<'b>> {
-    tokens.get(index.checked_sub(1)?).copied()
-}
-
-/// The nearest token before this one that is no white space.
-pub(crate) fn significant_before<'b>(tokens: &[Token<'b>], index: usize) -> Option<Token<'b>> {
-    let front = tokens.get(..index)?;
-    front
-        .iter()
-        .rev()
-        .find(|token| token.kind != TokenKind::Space)
-        .copied()
-}
-
-/// The nearest token after this one that is no white space.
-pub(crate) fn significant_after<'b>(tokens: &[Token<'b>], index: usize) -> Option<Token<'b>> {
-    significant(tokens.get(index.saturating_add(1)..)?, 0)
 }
 
 /// The flaw of a word.
-fn word_flaw(tokens: &[Token<'_>], index: usize, word: &[u8]) -> Option<Flaw> {
-    let earlier = significant_before(tokens, index);
+fn word_flaw(spot: Spot<'_, '_>) -> Option<Flaw> {
+    let word = spot.token.bytes;
     if is_keyword(word) {
-        return match earlier {
-            None => None,
-            Some(token) if token.bytes == b"else".as_slice() => None,
+        return match spot.earlier() {
+            None | Some(Token { bytes: b"else", .. }) => None,
             Some(_) => Some(Flaw::Keyword),
         };
     }
     if is_constant(word) {
-        return after_bar(tokens, index).or(joined_flaw(tokens, index));
-    }
-    match Func::named(word) {
-        Some(_) => joined_flaw(tokens, index),
-        None => Some(Flaw::NoFunction),
+        operand_flaw(spot)
+    } else if Func::named(word).is_none() {
+        Some(Flaw::NoFunction)
+    } else {
+        joined_flaw(spot)
     }
 }
 
 /// Whether a word begins an action.
-pub(crate) fn is_keyword(word: &[u8]) -> bool {
-    let keywords: [&[u8]; 10] = [
-        b"if",
-        b"with",
-        b"range",
-        b"else",
-        b"end",
-        b"break",
-        b"continue",
-        b"define",
-        b"template",
-        b"block",
-    ];
-    keywords.iter().any(|keyword| *keyword == word)
+fn is_keyword(word: &[u8]) -> bool {
+    matches!(
+        word,
+        b"if"
+            | b"with"
+            | b"range"
+            | b"else"
+            | b"end"
+            | b"break"
+            | b"continue"
+            | b"define"
+            | b"template"
+            | b"block"
+    )
 }
 
 /// Whether a word is a constant.
 pub(crate) fn is_constant(word: &[u8]) -> bool {
-    word == b"true".as_slice() || word == b"false".as_slice() || word == b"nil".as_slice()
+    matches!(word, b"true" | b"false" | b"nil")
 }
 
 /// The flaw of a field.
-fn field_flaw(tokens: &[Token<'_>], index: usize, bytes: &[u8]) -> Option<Flaw> {
-    match bytes {
-        [_, first, ..] if first.is_ascii_digit() => Some(Flaw::Index),
-        _ => match before(tokens, index) {
-            Some(token) if is_value(token.kind) && !may_have_field(token.kind) => Some(
-                Flaw::Joined,
-            ),
-            _ => None,
-        },
+fn field_flaw(spot: Spot<'_, '_>) -> Option<Flaw> {
+    match (spot.token.bytes, spot.front) {
+        ([_, b'0'..=b'9', ..], _) => Some(Flaw::Index),
+        (_, [.., before]) if may_have_field(before.kind) => None,
+        _ => joined_flaw(spot),
     }
 }
 
-/// The flaw of a dot.
-fn dot_flaw(tokens: &[Token<'_>], index: usize) -> Option<Flaw> {
-    after_bar(tokens, index).or(joined_flaw(tokens, index))
-}
-
 /// The flaw of a constant.
-fn constant_flaw(
-    alloc: Global,
-    tokens: &[Token<'_>],
-    index: usize,
-) -> Result<Option<Flaw>, AllocError> {
-    let Some(alone) = tokens.get(index..index.saturating_add(1)) else {
-        return Ok(None);
-    };
-    match read_action(alloc, alone)? {
-        Reading::Read(_) => Ok(after_bar(tokens, index).or(joined_flaw(tokens, index))),
+fn constant_flaw(alloc: Global, spot: Spot<'_, '_>) -> Result<Option<Flaw>, AllocError> {
+    match read_action(alloc, [spot.token].as_slice())? {
+        Reading::Read(_) => Ok(operand_flaw(spot)),
         _ => Ok(Some(Flaw::Constant)),
     }
 }
 
-/// Whether a token stands after a bar, where a constant or a dot may not.
-fn after_bar(tokens: &[Token<'_>], index: usize) -> Option<Flaw> {
-    match significant_before(tokens, index) {
+/// The flaw of a constant or a dot, which may not stand after a bar.
+fn operand_flaw(spot: Spot<'_, '_>) -> Option<Flaw> {
+    match spot.earlier() {
         Some(token) if token.kind == TokenKind::Pipe => Some(Flaw::AfterBar),
-        _ => None,
+        _ => joined_flaw(spot),
     }
 }
 
 /// Whether an operand stands directly after another.
-fn joined_flaw(tokens: &[Token<'_>], index: usize) -> Option<Flaw> {
-    match before(tokens, index) {
-        Some(token) if is_value(token.kind) => Some(Flaw::Joined),
+fn joined_flaw(spot: Spot<'_, '_>) -> Option<Flaw> {
+    match spot.front {
+        [.., before] if is_value(before.kind) => Some(Flaw::Joined),
         _ => None,
     }
 }
@@ -223,173 +226,124 @@ fn may_have_field(kind: TokenKind) -> bool {
     )
 }
 
-/// The flaw of a `,`, `:=` or `=`: these stand after a variable.
-fn binding_flaw(tokens: &[Token<'_>], index: usize) -> Option<Flaw> {
-    match significant_before(tokens, index) {
-        Some(token) if token.kind == TokenKind::Variable => None,
-        _ => Some(Flaw::Stray),
-    }
-}
-
 /// The flaw of a bar.
-fn bar_flaw(tokens: &[Token<'_>], index: usize) -> Option<Flaw> {
-    match (
-        significant_before(tokens, index),
-        significant_after(tokens, index),
-    ) {
+fn bar_flaw(spot: Spot<'_, '_>) -> Option<Flaw> {
+    match (spot.earlier(), spot.later()) {
         (Some(left), Some(right))
             if is_value(left.kind) && right.kind != TokenKind::RightParenthesis => { None }
         _ => Some(Flaw::LooseBar),
     }
 }
 
-/// The flaw of a parenthesis.
-fn parenthesis_flaw(tokens: &[Token<'_>], index: usize) -> Option<Flaw> {
-    match tokens.get(index) {
-        Some(token) if token.kind == TokenKind::LeftParenthesis => joined_flaw(tokens, index),
-        _ => None,
-    }
-}
-
-/// The first `)` that closes nothing, or the first `(` of those outside all others that is not closed.
-fn find_unbalanced(tokens: &[Token<'_>]) -> Option<(usize, Flaw)> {
+/// What is wrong with the parentheses, if something is.
+fn unbalanced(tokens: &[Token<'_>]) -> Option<&'static str> {
     let mut depth = 0_usize;
-    let mut outermost = 0;
-    for (index, token) in tokens.iter().enumerate() {
+    for token in tokens {
         match token.kind {
-            TokenKind::LeftParenthesis => {
-                if depth == 0 {
-                    outermost = index;
-                }
-                depth = depth.saturating_add(1);
-            }
+            TokenKind::LeftParenthesis => depth = depth.saturating_add(1),
             TokenKind::RightParenthesis => match depth.checked_sub(1) {
                 Some(outside) => depth = outside,
-                None => return Some((index, Flaw::Unopened)),
+                None => return Some("\")\" closes no \"(\""),
             },
             _ => {}
         }
     }
-    if depth > 0 {
-        Some((outermost, Flaw::Unclosed))
-    } else {
-        None
-    }
+    (depth > 0).then_some("\"(\" is not closed")
 }
 
-/// The message about a flaw.
-fn flaw_text(alloc: Global, tokens: &[Token<'_>], at: (usize, Flaw)) -> Result<String, AllocError> {
-    let (index, flaw) = at;
-    let bytes = match tokens.get(index) {
-        Some(token) => token.bytes,
-        None => &[],
-    };
-    let said = Sentence::new(alloc);
-    let said = match flaw {
-        Flaw::Operator(operator) => operator.text(said, tokens, index),
-        Flaw::NoFunction => no_function(said, tokens, index, bytes),
-        Flaw::Keyword => keyword_text(said, tokens, bytes),
-        Flaw::Index => index_text(said, tokens, index, bytes),
+/// Says what is wrong with a token.
+fn flaw_text(said: Sentence, spot: Spot<'_, '_>, flaw: Flaw) -> Sentence {
+    let bytes = spot.token.bytes;
+    match flaw {
+        Flaw::Operator(operator) => operator.text(said, spot.front, spot.back),
+        Flaw::NoFunction => no_function(said.say("no function ").quote(bytes), spot),
+        Flaw::Keyword => match spot.front {
+            [Token { bytes: b"end", .. }, ..] => said.say("\"end\" stands alone: write {{end}}"),
+            _ => said
+                .quote(bytes)
+                .say(" stands first in an action of its own"),
+        },
+        Flaw::Index => index_text(said.say("no field ").quote(bytes), spot),
         Flaw::Constant => constant_text(said, bytes),
-        Flaw::Unopened => said.say("\")\" closes no \"(\""),
-        Flaw::Unclosed => said.say("\"(\" is not closed"),
         Flaw::AfterBar => said
             .quote(bytes)
             .say(" takes no value, so it may not stand after \"|\""),
         Flaw::LooseBar => said.say("\"|\" stands between two commands"),
         Flaw::Stray => said.say("unexpected ").quote(bytes),
         Flaw::Joined => said.say("a space is wanted before ").quote(bytes),
-    };
-    said.finish()
-}
-
-/// The message about a keyword that is not the first word.
-fn keyword_text(said: Sentence, tokens: &[Token<'_>], word: &[u8]) -> Sentence {
-    match tokens.first() {
-        Some(first) if first.bytes == b"end".as_slice() => said.say(
-            "\"end\" stands alone: write {{end}}",
-        ),
-        _ => said
-            .quote(word)
-            .say(" stands first in an action of its own"),
     }
 }
 
-/// The message about a word that names no function.
-fn no_function(said: Sentence, tokens: &[Token<'_>], index: usize, word: &[u8]) -> Sentence {
-    let said = said.say("no function ").quote(word);
+/// Says what to write for a word that names no function.
+fn no_function(said: Sentence, spot: Spot<'_, '_>) -> Sentence {
+    let word = spot.token.bytes;
     if let Some(text) = straight(word) {
         return said
             .say(": a string stands between straight quotes: write \"")
             .show(text)
             .say("\"");
     }
-    if is_bound(tokens, index) {
+    if let Some(
+        Token {
+            kind: TokenKind::Declare | TokenKind::Assign,
+            ..
+        },
+    ) = spot.later()
+    {
         return said
             .say(": a variable begins with \"$\": write $")
             .show(word);
     }
-    if let Some(text) = instead_of(word) {
-        return said.say(": ").say(text);
+    match (instead_of(word), near(word)) {
+        (Some(text), _) => said.say(": ").say(text),
+        (None, Some(name)) => said.say(": write ").say(name),
+        (None, None) => name_text(said, spot),
     }
-    if let Some(name) = near(word) {
-        return said.say(": write ").say(name);
-    }
-    name_text(said, tokens, index, word)
 }
 
-/// The message about a word that names no function and is like none.
-fn name_text(said: Sentence, tokens: &[Token<'_>], index: usize, word: &[u8]) -> Sentence {
-    let is_name = significant_before(tokens, index).is_some_and(|token| is_name_keyword(
-        token.bytes,
-    ));
-    if is_name {
-        said.say(": write ").quote(word)
-    } else if is_value_alone(tokens, index) {
-        show_chain(said.say(": write ."), tokens.get(index..))
-    } else {
-        said
+/// Says what to write for a word that is like no other: a name in quotes, or a field where it begins a command and no
+/// operand follows it.
+fn name_text(said: Sentence, spot: Spot<'_, '_>) -> Sentence {
+    let begins = match spot.earlier() {
+        Some(
+            Token {
+                bytes: b"template" | b"define" | b"block",
+                ..
+            },
+        ) => {
+            return said.say(": write ").quote(spot.token.bytes);
+        }
+        Some(token) => is_keyword(token.bytes),
+        None => true,
+    };
+    if !begins || has_operand(spot.back) {
+        return said;
     }
+    let mut said = said.say(": write .").show(spot.token.bytes);
+    for token in spot.back {
+        if token.kind != TokenKind::Field {
+            return said;
+        }
+        said = said.show(token.bytes);
+    }
+    said
 }
 
 /// What stands in a word between quotes that are not straight, with which it begins.
 fn straight(word: &[u8]) -> Option<&[u8]> {
-    match word {
-        [
-            0xe2,
-            0x80,
-            0x98 | 0x99 | 0x9c | 0x9d,
-            text @ ..,
-            0xe2,
-            0x80,
-            0x98 | 0x99 | 0x9c | 0x9d,
-        ] => Some(text),
-        [0xe2, 0x80, 0x98 | 0x99 | 0x9c | 0x9d, text @ ..] => Some(text),
-        _ => None,
-    }
-}
-
-/// Whether a word is given a value, as a variable is.
-fn is_bound(tokens: &[Token<'_>], index: usize) -> bool {
-    match significant_after(tokens, index) {
-        Some(token) => matches!(token.kind, TokenKind::Declare | TokenKind::Assign),
-        None => false,
-    }
-}
-
-/// Whether a word is the first of an action or stands after a control, and no operand follows it.
-fn is_value_alone(tokens: &[Token<'_>], index: usize) -> bool {
-    let begins = match significant_before(tokens, index) {
-        None => true,
-        Some(token) => is_keyword(token.bytes),
+    let [0xe2, 0x80, 0x98 | 0x99 | 0x9c | 0x9d, text @ ..] = word else {
+        return None;
     };
-    begins && !has_operand(tokens.get(index..).unwrap_or(&[]))
+    match text {
+        [inside @ .., 0xe2, 0x80, 0x98 | 0x99 | 0x9c | 0x9d] => Some(inside),
+        _ => Some(text),
+    }
 }
 
-/// Whether an operand follows the first of these tokens and the fields of it.
+/// Whether an operand is among these tokens, which stand after a word and may begin with its fields.
 fn has_operand(tokens: &[Token<'_>]) -> bool {
     let mut is_apart = false;
-    for token in tokens.iter().skip(1) {
+    for token in tokens {
         match token.kind {
             TokenKind::Space => is_apart = true,
             TokenKind::Pipe => return false,
@@ -400,34 +354,18 @@ fn has_operand(tokens: &[Token<'_>]) -> bool {
     false
 }
 
-/// Shows the first of these tokens and the fields directly after it.
-fn show_chain(said: Sentence, tokens: Option<&[Token<'_>]>) -> Sentence {
-    let mut said = said;
-    for (count, token) in tokens.unwrap_or(&[]).iter().enumerate() {
-        if count > 0 && token.kind != TokenKind::Field {
-            return said;
-        }
-        said = said.show(token.bytes);
-    }
-    said
-}
-
-/// Whether a name in quotes stands after this word.
-fn is_name_keyword(word: &[u8]) -> bool {
-    word == b"template".as_slice() || word == b"define".as_slice() || word == b"block".as_slice()
-}
-
-/// The message about a field whose name begins with a digit.
-fn index_text(said: Sentence, tokens: &[Token<'_>], index: usize, bytes: &[u8]) -> Sentence {
-    let said = said.say("no field ").quote(bytes).say(": write index ");
-    let said = match before(tokens, index) {
-        Some(token) if may_have_field(token.kind) => show_left(said, tokens, index),
+/// Says what to write for a field whose name begins with a digit.
+fn index_text(said: Sentence, spot: Spot<'_, '_>) -> Sentence {
+    let said = said.say(": write index ");
+    let said = match spot.front {
+        [.., before] if may_have_field(before.kind) => show_left(said, spot.front),
         _ => said.say("."),
     };
-    match bytes {
-        [_, name @ ..] if name.iter().all(|b| b.is_ascii_digit()) => said.say(" ").show(name),
-        [_, name @ ..] => said.say(" \"").show(name).say("\""),
-        [] => said,
+    let name = spot.token.bytes.get(1..).unwrap_or(&[]);
+    if name.iter().all(|b| b.is_ascii_digit()) {
+        said.say(" ").show(name)
+    } else {
+        said.say(" \"").show(name).say("\"")
     }
 }
 
@@ -442,38 +380,31 @@ fn constant_text(said: Sentence, bytes: &[u8]) -> Sentence {
         [b'"' | b'`' | b'\'', ..] => said
             .show(bytes)
             .say(" is no constant: look at what stands after its \"\\\""),
-        _ if bytes.iter().any(|b| *b == b'.') => said
-            .say("number ")
-            .show(bytes)
-            .say(" is not whole"),
+        _ if bytes.contains(&b'.') => said.say("number ").show(bytes).say(" is not whole"),
         _
             if bytes
                 .iter()
-                .all(|b| b.is_ascii_digit() || *b == b'-' || *b == b'+') => {
-            said.say("number ")
-                .show(bytes)
-                .say(" is out of range or has an 8 or 9 after a first 0")
-        }
+                .all(|b| matches!(*b, b'0'..=b'9' | b'-' | b'+')) => said
+            .say("number ")
+            .show(bytes)
+            .say(" is out of range or has an 8 or 9 after a first 0"),
         _ => said.show(bytes).say(" is no integer"),
     }
 }
 
-/// The message about an action in which each token alone may stand where it does.
-fn shape_text(said: Sentence, first: Token<'_>, tokens: &[Token<'_>]) -> Sentence {
-    let word = first.bytes;
-    let is_alone = significant(tokens, 1).is_none();
-    if word == b"end".as_slice() || word == b"break".as_slice() || word == b"continue".as_slice() {
-        said.quote(word).say(" stands alone")
-    } else if is_name_keyword(word) {
-        said.say("after ").quote(word).say(
+/// The message about an action in which each token alone may stand where it does, and which begins with this word.
+fn shape_text(said: Sentence, word: &[u8], tokens: &[Token<'_>]) -> Sentence {
+    match word {
+        b"end" | b"break" | b"continue" => said.quote(word).say(" stands alone"),
+        b"template" | b"define" | b"block" => said.say("after ").quote(word).say(
             " stands a name in quotes, and after that what it is given",
-        )
-    } else if word == b"else".as_slice() {
-        said.say("after \"else\" stands nothing, or \"if\" or \"with\" and a value")
-    } else if is_keyword(word) && is_alone {
-        said.say("after ").quote(word).say(" stands a value")
-    } else {
-        said.say("the parts of the action do not fit together")
+        ),
+        b"else" => said.say("after \"else\" stands nothing, or \"if\" or \"with\" and a value"),
+        b"if" | b"with" | b"range" if significant(tokens, 1).is_none() => said
+            .say("after ")
+            .quote(word)
+            .say(" stands a value"),
+        _ => said.say("the parts of the action do not fit together"),
     }
 }
 
@@ -495,7 +426,7 @@ pub fn misplaced_text(
             said.say("a define stands in no other part"),
             outside,
         ),
-        Role::Else(branch) => inside_text(else_text(said, branch, outside), outside),
+        Role::Else(branch) => inside_text(said.say(else_words(branch, outside)), outside),
         _ => said,
     };
     said.finish()
@@ -523,20 +454,13 @@ fn open_text(said: Sentence, part: Open) -> Sentence
 }
 
 /// The message about an else that is out of place, without what is open there.
-fn else_text(said: Sentence, branch: Option<Branch>, outside: Option<Open>) -> Sentence
-    ensures { Adds said result (spec.misplaced_else branch outside) }
+fn else_words(branch: Option<Branch>, outside: Option<Open>) -> &'static str
+    ensures { result.now ≡ spec.misplaced_else branch outside }
 {
-    match outside {
-        None => said.say("\"else\" belongs to no if, with or range"),
-        Some(part) => said.say(else_words(branch, part.opening)),
-    }
-}
-
-/// The message of an else that is out of place where this is open.
-fn else_words(branch: Option<Branch>, opening: Opening) -> &'static str
-    ensures { result.now ≡ spec.else_in branch opening }
-{
-    match (branch, opening) {
+    let Some(part) = outside else {
+        return "\"else\" belongs to no if, with or range";
+    };
+    match (branch, part.opening) {
         (_, Opening::Define | Opening::Block) => "\"else\" belongs to no if, with or range",
         (Some(Branch::If), Opening::With | Opening::Range) => {
             "\"else if\" stands in an if alone: write {{else}}{{if P}}..{{end}}"

@@ -19,18 +19,22 @@ pub(crate) fn near(word: &[u8]) -> Option<&'static str> {
     near.copied()
 }
 
-/// How many bytes two words begin with alike.
-fn common(word: &[u8], name: &[u8]) -> usize {
-    word.iter()
+/// Two words without the bytes with which both begin.
+fn past_common<'w, 'n>(word: &'w [u8], name: &'n [u8]) -> (&'w [u8], &'n [u8]) {
+    let common = word
+        .iter()
         .zip(name)
         .take_while(|(left, right)| left == right)
-        .count()
+        .count();
+    (
+        word.get(common..).unwrap_or(&[]),
+        name.get(common..).unwrap_or(&[]),
+    )
 }
 
 /// Whether two words differ in the order of two neighbours alone.
 fn has_exchanged(word: &[u8], name: &[u8]) -> bool {
-    let front = common(word, name);
-    match (rest(word, front), rest(name, front)) {
+    match past_common(word, name) {
         ([a, b, left @ ..], [c, d, right @ ..]) => a == d && b == c && left == right,
         _ => false,
     }
@@ -38,16 +42,10 @@ fn has_exchanged(word: &[u8], name: &[u8]) -> bool {
 
 /// Whether one word has one byte more, less or other than the other.
 fn is_near(word: &[u8], name: &[u8]) -> bool {
-    let front = common(word, name);
-    match (rest(word, front), rest(name, front)) {
+    match past_common(word, name) {
         ([_, left @ ..], [_, right @ ..]) if left == right => true,
         ([_, left @ ..], right) if left == right => true,
         (left, [_, right @ ..]) => left == right,
         _ => false,
     }
-}
-
-/// A word without this many bytes at its start.
-fn rest(word: &[u8], front: usize) -> &[u8] {
-    word.get(front..).unwrap_or(&[])
 }

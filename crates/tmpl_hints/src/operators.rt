@@ -12,44 +12,26 @@ pub(crate) struct Operator {
     function: &'static str,
 }
 
-/// Those that are tokens, or two of them.
-const EQUALS: Operator = Operator {
-    sign: b"==",
-    function: "eq",
-};
-
-const EITHER: Operator = Operator {
-    sign: b"||",
-    function: "or",
-};
-
-/// The operator that begins with the token of this number.
-pub(crate) fn operator_at(tokens: &[Token<'_>], index: usize) -> Option<Operator> {
-    let token = tokens.get(index)?;
-    let next = tokens.get(index.saturating_add(1))?;
-    match (token.kind, next.kind) {
-        (TokenKind::Assign, TokenKind::Assign) => Some(EQUALS),
-        (TokenKind::Pipe, TokenKind::Pipe) => Some(EITHER),
+/// The operator that this token begins and those after it go on with.
+pub(crate) fn operator_at(token: Token<'_>, back: &[Token<'_>]) -> Option<Operator> {
+    match (token.kind, back.first()?.kind) {
+        (TokenKind::Assign, TokenKind::Assign) => Some(sign(b"==", "eq")),
+        (TokenKind::Pipe, TokenKind::Pipe) => Some(sign(b"||", "or")),
         _ => None,
     }
 }
 
 /// The operator with which bytes begin that are no token.
 pub(crate) fn operator_in(bytes: &[u8]) -> Option<Operator> {
-    let known: [Operator; 6] = [
-        sign(b"!=", "ne"),
-        sign(b"<=", "le"),
-        sign(b">=", "ge"),
-        sign(b"&&", "and"),
-        sign(b"<", "lt"),
-        sign(b">", "gt"),
-    ];
-    for operator in known {
-        if bytes.starts_with(operator.sign) {
-            return Some(operator);
-        }
+    match bytes {
+        [b'!', b'=', ..] => Some(sign(b"!=", "ne")),
+        [b'<', b'=', ..] => Some(sign(b"<=", "le")),
+        [b'>', b'=', ..] => Some(sign(b">=", "ge")),
+        [b'&', b'&', ..] => Some(sign(b"&&", "and")),
+        [b'<', ..] => Some(sign(b"<", "lt")),
+        [b'>', ..] => Some(sign(b">", "gt")),
+        _ => None,
     }
-    None
 }
 
 /// An operator of this sign.
@@ -58,52 +40,42 @@ fn sign(sign: &'static [u8], function: &'static str) -> Operator {
 }
 
 impl Operator {
-    /// The message about it, where it begins with the token of this number.
-    pub(crate) fn text(self, said: Sentence, tokens: &[Token<'_>], index: usize) -> Sentence {
-        let said = self.begin(said);
-        let said = show_left(said, tokens, index).say(" ");
-        show_right(said, tokens.get(index.saturating_add(2)..))
+    /// The message about it, between the tokens before it and its second one with those after it.
+    pub(crate) fn text(self, said: Sentence, front: &[Token<'_>], back: &[Token<'_>]) -> Sentence {
+        show_right(self.begin(said, front), back.get(1..).unwrap_or(&[]))
     }
 
     /// The message about it, where it is no token and stands after these and before these bytes.
     pub(crate) fn text_between(
         self,
         said: Sentence,
-        tokens: &[Token<'_>],
+        front: &[Token<'_>],
         after: &[u8],
     ) -> Sentence {
-        let said = self.begin(said);
-        let said = show_left(said, tokens, tokens.len()).say(" ");
-        show_value(said, first_word(after))
+        let said = self.begin(said, front);
+        match first_word(after) {
+            [b'!', rest @ ..] => show_name(said.say("(not "), rest).say(")"),
+            word => show_name(said, word),
+        }
     }
 
-    /// The message about it, up to its operands.
-    fn begin(self, said: Sentence) -> Sentence {
-        said.quote(self.sign)
-            .say(" is no operand: write ")
-            .say(self.function)
-            .say(" ")
+    /// The message about it, up to its second operand.
+    fn begin(self, said: Sentence, front: &[Token<'_>]) -> Sentence {
+        let said = said.quote(self.sign).say(" is no operand: write ");
+        show_left(said.say(self.function).say(" "), front).say(" ")
     }
 }
 
-/// Shows the operand before the token of this number.
-pub(crate) fn show_left(said: Sentence, tokens: &[Token<'_>], index: usize) -> Sentence {
+/// Shows the operand with which tokens end.
+pub(crate) fn show_left(said: Sentence, tokens: &[Token<'_>]) -> Sentence {
     let mut said = said;
-    for token in operand_before(tokens, index) {
+    for token in last_operand(tokens) {
         said = match token.kind {
             TokenKind::Word => show_name(said, token.bytes),
             _ => said.show(token.bytes),
         };
     }
     said
-}
-
-/// Shows what is written as an operand, in which a `!` may stand before it.
-fn show_value(said: Sentence, bytes: &[u8]) -> Sentence {
-    match bytes {
-        [b'!', rest @ ..] => show_name(said.say("(not "), rest).say(")"),
-        _ => show_name(said, bytes),
-    }
 }
 
 /// Shows a word; one that is no function and no constant as a field of dot.
@@ -115,15 +87,14 @@ fn show_name(said: Sentence, word: &[u8]) -> Sentence {
     }
 }
 
-/// The tokens of the operand before the token of this number.
-fn operand_before<'t, 'b>(tokens: &'t [Token<'b>], index: usize) -> &'t [Token<'b>] {
-    let front = tokens.get(..index).unwrap_or(tokens);
-    let blank = front
+/// The tokens of the operand with which tokens end, before white space.
+fn last_operand<'t, 'b>(tokens: &'t [Token<'b>]) -> &'t [Token<'b>] {
+    let blank = tokens
         .iter()
         .rev()
         .take_while(|token| token.kind == TokenKind::Space)
         .count();
-    let (front, _) = front.split_at(front.len().saturating_sub(blank));
+    let (front, _) = tokens.split_at(tokens.len().saturating_sub(blank));
     let taken = front
         .iter()
         .rev()
@@ -134,10 +105,10 @@ fn operand_before<'t, 'b>(tokens: &'t [Token<'b>], index: usize) -> &'t [Token<'
 }
 
 /// Shows the operand with which tokens begin.
-fn show_right(said: Sentence, tokens: Option<&[Token<'_>]>) -> Sentence {
+fn show_right(said: Sentence, tokens: &[Token<'_>]) -> Sentence {
     let mut said = said;
     let mut begun = false;
-    for token in tokens.unwrap_or(&[]) {
+    for token in tokens {
         if is_inside(token.kind) {
             begun = true;
             said = said.show(token.bytes);
@@ -165,8 +136,7 @@ fn is_inside(kind: TokenKind) -> bool {
 
 /// The bytes up to white space, a brace or a closing parenthesis.
 pub(crate) fn first_word(bytes: &[u8]) -> &[u8] {
-    let blank = bytes.iter().take_while(|b| b.is_ascii_whitespace()).count();
-    let (_, rest) = bytes.split_at(blank);
+    let rest = bytes.trim_ascii_start();
     let taken = rest
         .iter()
         .take_while(|b| !b.is_ascii_whitespace() && !matches!(**b, b'{' | b'}' | b')'))

@@ -55,63 +55,79 @@ fn read_len(tokens: &[Token<'_>], after: &[u8]) -> usize {
 
 /// The message about bytes with which no token begins.
 fn said_of(said: Sentence, tokens: &[Token<'_>], bytes: &[u8]) -> Sentence {
-    match bytes {
-        [b'>', rest @ ..] if tokens.len() == 0 => return partial_text(said, first_word(rest)),
-        [b'[', rest @ ..] => return subscript_text(said, tokens, rest),
+    match (tokens, bytes) {
+        ([], [b'>', rest @ ..]) => {
+            let said = said.say("\">\" begins no action: write {{template \"");
+            return said.show(first_word(rest)).say("\" .}}");
+        }
+        (_, [b'[', rest @ ..]) => return subscript_text(said, tokens, rest),
         _ => {}
     }
     if let Some(operator) = operator_in(bytes) {
         let rest = bytes.get(operator.sign.len()..).unwrap_or(&[]);
         return operator.text_between(said, tokens, rest);
     }
-    match bytes {
-        [] => said.say("\"{{\" is not closed by \"}}\""),
-        [b'{', b'{', ..] => said.say("\"{{\" inside an action: is \"}}\" missing before it?"),
-        [b'"', rest @ ..] if ends_curly(rest) => said.say(
-            "a string stands between straight quotes, as \"Ada\"",
-        ),
-        [b'"', ..] => said.say(
-            "a text in quotes is not closed in its line; one of several lines stands in backquotes",
-        ),
-        [b'\'', ..] => said.say(
-            "a character in quotes is not closed in its line; a text stands in double quotes",
-        ),
-        [b'`', ..] => said.say("a text in backquotes is not closed"),
-        [b'!', b'-', b'-', ..] | [b'#', b' ', ..] => said.say(
-            "a comment stands between \"{{/*\" and \"*/}}\"",
-        ),
-        [b'!', rest @ ..] => not_text(said, first_word(rest)),
-        [b'/', b'*', ..] => said.say("a comment begins right after its \"{{\": write {{/* .. */}}"),
-        [b'}', ..] => said.say("unexpected \"}\": an action ends with \"}}\""),
-        [b'-', b'}', b'}', ..] => said.say("a trim marker has a space before it: write \" -}}\""),
-        [b'-', ..] if tokens.len() == 0 => said.say(
-            "a trim marker has a space after it: write \"{{- \"",
-        ),
-        [b'%', ..] => said.say(
-            "unexpected \"%\": an action stands between \"{{\" and \"}}\" alone",
-        ),
-        [b'#' | b'/' | b'^', ..] if tokens.len() == 0 => said.quote(first_word(bytes)).say(
+    if let Some(words) = words_of(tokens, bytes) {
+        return said.say(words);
+    }
+    match (tokens, bytes) {
+        (_, [b'!', rest @ ..]) => {
+            let said = unexpected(said, bytes).say(": write not ");
+            match first_word(rest) {
+                [] => said.say(".x"),
+                word => said.show(word),
+            }
+        }
+        ([], [b'#' | b'/' | b'^', ..]) => said.quote(first_word(bytes)).say(
             " begins no action: a part begins with if, with or range and ends with end",
         ),
-        [b'?' | b':', ..] => said
-            .say("unexpected ")
-            .quote(first_byte(bytes))
-            .say(": write {{if P}}A{{else}}B{{end}}"),
-        [b'-', ..] if ends_with_field(tokens) => key_text(said, tokens, bytes),
-        [b'+' | b'-' | b'*' | b'/' | b'^', ..] => said
-            .say("unexpected ")
-            .quote(first_byte(bytes))
-            .say(": there is no arithmetic; compute it in the data"),
-        [b'&', ..] => said.say("unexpected \"&\": write and"),
-        _ => said.say("unexpected ").quote(first_byte(bytes)),
+        (_, [b'?' | b':', ..]) => unexpected(said, bytes).say(": write {{if P}}A{{else}}B{{end}}"),
+        ([front @ .., last], [b'-', ..]) if last.kind == TokenKind::Field => {
+            let name = last.bytes.get(1..).unwrap_or(&[]);
+            key_text(said, front)
+                .show(name)
+                .show(first_word(bytes))
+                .say("\"")
+        }
+        (_, [b'+' | b'-' | b'*' | b'/' | b'^', ..]) => unexpected(said, bytes).say(
+            ": there is no arithmetic; compute it in the data",
+        ),
+        _ => unexpected(said, bytes),
     }
 }
 
-/// The message about a partial template of this name, as Handlebars and Mustache have it.
-fn partial_text(said: Sentence, name: &[u8]) -> Sentence {
-    said.say("\">\" begins no action: write {{template \"")
-        .show(name)
-        .say("\" .}}")
+/// What is wrong with bytes with which no token begins, where the words are always the same.
+fn words_of(tokens: &[Token<'_>], bytes: &[u8]) -> Option<&'static str> {
+    let words = match bytes {
+        [] => "\"{{\" is not closed by \"}}\"",
+        [b'{', b'{', ..] => "\"{{\" inside an action: is \"}}\" missing before it?",
+        [b'"', rest @ ..] if ends_curly(rest) => {
+            "a string stands between straight quotes, as \"Ada\""
+        }
+        [b'"', ..] => {
+            "a text in quotes is not closed in its line; one of several lines stands in backquotes"
+        }
+        [b'\'', ..] => {
+            "a character in quotes is not closed in its line; a text stands in double quotes"
+        }
+        [b'`', ..] => "a text in backquotes is not closed",
+        [b'!', b'-', b'-', ..] | [b'#', b' ', ..] => {
+            "a comment stands between \"{{/*\" and \"*/}}\""
+        }
+        [b'/', b'*', ..] => "a comment begins right after its \"{{\": write {{/* .. */}}",
+        [b'}', ..] => "unexpected \"}\": an action ends with \"}}\"",
+        [b'-', b'}', b'}', ..] => "a trim marker has a space before it: write \" -}}\"",
+        [b'-', ..] if tokens.is_empty() => { "a trim marker has a space after it: write \"{{- \"" }
+        [b'%', ..] => "unexpected \"%\": an action stands between \"{{\" and \"}}\" alone",
+        [b'&', ..] => "unexpected \"&\": write and",
+        _ => return None,
+    };
+    Some(words)
+}
+
+/// The message about the first of these bytes.
+fn unexpected(said: Sentence, bytes: &[u8]) -> Sentence {
+    said.say("unexpected ").quote(bytes.get(..1).unwrap_or(&[]))
 }
 
 /// The message about a `[` after these tokens and before these bytes.
@@ -123,18 +139,25 @@ fn subscript_text(said: Sentence, tokens: &[Token<'_>], after: &[u8]) -> Sentenc
         .count();
     let (key, _) = after.split_at(taken);
     match key {
-        [b'"' | b'$' | b'.' | b'0'..=b'9', ..] if ends_with_value(tokens) && key.len() < 50 => {
-            show_left(said.say(" "), tokens, tokens.len())
-                .say(" ")
-                .show(key)
+        [b'"' | b'$' | b'.' | b'0'..=b'9', ..] if is_chain(tokens) && key.len() < 50 => {
+            show_left(said.say(" "), tokens).say(" ").show(key)
         }
         _ => said.say(", as in index .list 0"),
     }
 }
 
-/// Whether the last token is a field or a variable.
-fn ends_with_value(tokens: &[Token<'_>]) -> bool {
-    matches!(tokens.last(), Some(token) if is_chained(token.kind))
+/// Whether tokens end with a field or a variable.
+fn is_chain(tokens: &[Token<'_>]) -> bool {
+    matches!(
+        tokens,
+        [
+            ..,
+            Token {
+                kind: TokenKind::Field | TokenKind::Variable,
+                ..
+            }
+        ]
+    )
 }
 
 /// Whether a curly quote comes in a line before its `}}`.
@@ -149,42 +172,13 @@ fn ends_curly(bytes: &[u8]) -> bool {
     false
 }
 
-/// The message about a `!` before this word.
-fn not_text(said: Sentence, word: &[u8]) -> Sentence {
-    let said = said.say("unexpected \"!\": write not ");
-    if word.is_empty() {
-        said.say(".x")
-    } else {
-        said.show(word)
-    }
-}
-
-/// Whether the last token is a field.
-fn ends_with_field(tokens: &[Token<'_>]) -> bool {
-    matches!(tokens.last(), Some(token) if token.kind == TokenKind::Field)
-}
-
-/// The message about a key with a `-` that is written as a field.
-fn key_text(said: Sentence, tokens: &[Token<'_>], bytes: &[u8]) -> Sentence {
-    let index = tokens.len().saturating_sub(1);
-    let name = match tokens.last() {
-        Some(token) => token.bytes.get(1..).unwrap_or(&[]),
-        None => &[],
-    };
+/// The message about a key with a `-` that is written as a field after these tokens, up to its name.
+fn key_text(said: Sentence, front: &[Token<'_>]) -> Sentence {
     let said = said.say("unexpected \"-\": write index ");
-    let said = match tokens.get(index.saturating_sub(1)) {
-        Some(token) if index > 0 && is_chained(token.kind) => show_left(said, tokens, index),
-        _ => said.say("."),
+    let said = if is_chain(front) {
+        show_left(said, front)
+    } else {
+        said.say(".")
     };
-    said.say(" \"").show(name).show(first_word(bytes)).say("\"")
-}
-
-/// Whether a field may stand directly after a token of this kind.
-fn is_chained(kind: TokenKind) -> bool {
-    matches!(kind, TokenKind::Field | TokenKind::Variable)
-}
-
-/// The first byte.
-fn first_byte(bytes: &[u8]) -> &[u8] {
-    bytes.get(..1).unwrap_or(&[])
+    said.say(" \"")
 }

@@ -15,16 +15,12 @@ use Rattle.indexmap.specs.IndexMap.{insert_entry}
 use Rattle.tmpl_lex.specs.Begin.{BeginsAt}
 use Rattle.tmpl_lex.specs.Piece.{Token, Piece, action}
 use Rattle.tmpl_lex.specs.Text.{text_piece}
-use Rattle.tmpl_lex.specs.View.{token_of}
-use Rattle.tmpl_lex.specs.declared.part.AfterText.{AfterText}
-use Rattle.tmpl_lex.specs.declared.part.AfterText.TheVariants as variant
-use Rattle.tmpl_lex.specs.declared.piece.Token as held
 use Rattle.tmpl_syntax.proofs.BeginLemmas.{begins-within}
 use Rattle.tmpl_syntax.specs.Column.{IsPlace}
 use Rattle.tmpl_syntax.specs.declared.column.Place.{Place}
 use Rattle.tmpl_problems.specs.Survey.{Declared, declared_from, declared_in, firsts, is_used, tokens_in, used_from}
 use Rattle.tmpl_problems.specs.Tokens.{declared_names, used_names}
-use Rattle.tmpl_problems.specs.computed.Adds.{ArePlaced, IsNoted, Passes, PassesAfter, mark, mark_each, note}
+use Rattle.tmpl_problems.specs.computed.Adds.{ArePlaced, IsNoted, Passes, mark, mark_each, note, note_each}
 use Rattle.tmpl_problems.specs.declared.survey.Variable.{Variable}
 use Rattle.tmpl_problems.proofs.StepLemmas.{enumerate-append, zip-append}
 
@@ -363,11 +359,13 @@ module _ (file : List ℕ) where
   noted-placed uses (d ∷ ds) [] z = absurd z
   noted-placed uses (d ∷ ds) (e ∷ es) z = All-cons (λ e. IsPlace file e.1.place) e es z.0.place (noted-placed uses ds es z.1)
 
-  pub after-keeps : (opens : ℕ) (ts : List held.Token) (after : AfterText) (old new : List (Bor (List ℕ) × Variable)) → PassesAfter file opens ts after old new
-      → ArePlaced file old → ArePlaced file new
-  after-keeps opens ts variant.Nothing old new p all = subst (ArePlaced file) (sym p) all
-  after-keeps opens ts (variant.Action line) old new p all = passes-placed file opens (map token_of ts) old new p all
-  after-keeps opens ts (variant.Unreadable line) old new p all = passes-placed file opens (map token_of ts) old new p all
+-- an action of no tokens leaves what is noted
+pub passes-nothing : (file : List ℕ) (opens : ℕ) (old new : List (Bor (List ℕ) × Variable)) → Passes file opens [] old new → new ≡ old
+passes-nothing file opens old new p = go p.notes.names p.notes.names_are p.notes.entries
+  where
+    go : (names : List (Bor (List ℕ))) → map (λ (name : Bor (List ℕ)). name.now) names ≡ [] → p.noted ≡ note_each p.notes.place (length names) names old → new ≡ old
+    go [] e is = p.marks ∙ is
+    go (name ∷ names) e is = absurd (cc)
 
 -- ---- pieces
 

@@ -24,14 +24,16 @@ use Rattle.tmpl_syntax.specs.Column.{IsPlace}
 use Rattle.tmpl_syntax.specs.declared.column.Place.{Place}
 use Rattle.tmpl_problems.specs.Survey.{Declared, IsNamed, IsUnused, IsWarning, Tells, Warns, callers, declared_from, definers, firsts, is_unreadable, named_place, names_from, readable, suspicious, unused, used_from, warned_place}
 use Rattle.tmpl_problems.specs.Sign.{first_sign}
-use Rattle.tmpl_problems.specs.computed.Adds.{AddsAfter, AddsAll, AddsSign, AddsZip, ArePlaced, FailsAfter, IsNoted, PassesAfter}
-use Rattle.tmpl_problems.specs.computed.Failing.{IsFailing, failing_from}
+use Rattle.tmpl_problems.specs.Tokens.{name_after}
+use Rattle.tmpl_problems.specs.computed.Adds.{AddsAll, AddsFailing, AddsName, AddsSign, AddsZip, ArePlaced, IsNoted, Passes, action_tokens}
+use Rattle.tmpl_problems.specs.computed.Failing.{IsFailing, failing_from, has_failing}
 use Rattle.tmpl_problems.specs.computed.Follows.{IsRestAfter}
 use Rattle.tmpl_problems.specs.declared.survey.Named.{Named}
+use Rattle.tmpl_problems.specs.declared.survey.Surveyor.{Surveyor}
 use Rattle.tmpl_problems.specs.declared.survey.Variable.{Variable}
 use Rattle.tmpl_problems.specs.declared.survey.Warning.{Warning}
-use Rattle.tmpl_problems.proofs.NotedLemmas.{AreNoted, action-noted, after-keeps, noted-placed, text-declares, text-uses}
-use Rattle.tmpl_problems.proofs.StepLemmas.{action-fails, adds-all, adds-zip, after-adds, after-placed, failing-append, failing-text, fails-placed, nothing-adds, nothing-fails, names-append, names-text, sign-adds, suspicious-append, suspicious-after}
+use Rattle.tmpl_problems.proofs.NotedLemmas.{AreNoted, action-noted, noted-placed, passes-nothing, passes-placed, text-declares, text-uses}
+use Rattle.tmpl_problems.proofs.StepLemmas.{adds-all, adds-nothing, adds-zip, failing-append, failing-text, fails-adds, fails-none, fails-placed, name-adds, name-placed, names-append, names-text, sign-adds, suspicious-append, suspicious-after}
 
 -- ---- any rest is cut into some pieces
 
@@ -111,26 +113,26 @@ begins-there file rest (variant.Action line) count opens n so b = so count opens
 begins-there file rest (variant.Unreadable line) count opens n so b = so count opens b
 
 names-adds : (file : List ℕ) (opens k : ℕ) (words : List (List ℕ)) (ts : List held.Token) (after : AfterText) (old new : List Named)
-    → list_any is_unreadable (pieces_after ts after) ≡ false → BeginsThere file after k opens → AddsAfter file opens words ts after old new
+    → list_any is_unreadable (pieces_after ts after) ≡ false → BeginsThere file after k opens → AddsName file opens (name_after words (action_tokens after ts)) old new
     → AddsZip (IsNamed file) (names_from words k (pieces_after ts after)) old new
 unfolding BeginsThere
-names-adds file opens k words ts variant.Nothing old new e b a = nothing-adds file opens old new words ts k a
-names-adds file opens k words ts (variant.Action line) old new e b a = after-adds file opens old new words ts line k b a
+names-adds file opens k words ts variant.Nothing old new e b a = adds-nothing (IsNamed file) old new a
+names-adds file opens k words ts (variant.Action line) old new e b a = name-adds file opens old new k b (name_after words (map token_of ts)) a
 names-adds file opens k words ts (variant.Unreadable line) old new e b a = absurd (cc)
 
 failing-adds : (file : List ℕ) (opens k : ℕ) (ts : List held.Token) (after : AfterText) (old new : List Warning)
-    → list_any is_unreadable (pieces_after ts after) ≡ false → BeginsThere file after k opens → FailsAfter file opens ts after old new
+    → list_any is_unreadable (pieces_after ts after) ≡ false → BeginsThere file after k opens → AddsFailing file opens (has_failing (action_tokens after ts)) old new
     → AddsZip (IsFailing file) (failing_from k (pieces_after ts after)) old new
 unfolding BeginsThere
-failing-adds file opens k ts variant.Nothing old new e b a = nothing-fails file opens old new ts k a
-failing-adds file opens k ts (variant.Action line) old new e b a = action-fails file opens old new ts line k b a
+failing-adds file opens k ts variant.Nothing old new e b a = fails-none file opens old new a
+failing-adds file opens k ts (variant.Action line) old new e b a = fails-adds file opens old new k b (has_failing (map token_of ts)) a
 failing-adds file opens k ts (variant.Unreadable line) old new e b a = absurd (cc)
 
 noted-after : (file : List ℕ) (opens : ℕ) (ps : List Piece) (ts : List held.Token) (after : AfterText) (old new : List (Bor (List ℕ) × Variable))
-    → list_any is_unreadable (pieces_after ts after) ≡ false → BeginsThere file after (length ps) opens → PassesAfter file opens ts after old new
+    → list_any is_unreadable (pieces_after ts after) ≡ false → BeginsThere file after (length ps) opens → Passes file opens (action_tokens after ts) old new
     → AreNoted file ps old → AreNoted file (ps ++ pieces_after ts after) new
 unfolding BeginsThere
-noted-after file opens ps ts variant.Nothing old new e b p z = subst (λ qs. AreNoted file qs new) (sym (append-nil ps)) (subst (AreNoted file ps) (sym p) z)
+noted-after file opens ps ts variant.Nothing old new e b p z = subst (λ qs. AreNoted file qs new) (sym (append-nil ps)) (subst (AreNoted file ps) (sym (passes-nothing file opens old new p)) z)
 noted-after file opens ps ts (variant.Action line) old new e b p z = action-noted file ps line opens (map token_of ts) old new p b z
 noted-after file opens ps ts (variant.Unreadable line) old new e b p z = absurd (cc)
 
@@ -193,6 +195,9 @@ pub record Found : Type 0 where
   pub called : List Named
   pub variables : List (Bor (List ℕ) × Variable)
 
+abbrev pub found_in : Surveyor → Found
+found_in s = record { warnings = s.warnings.items; failing = s.failing.items; defined = s.defined.items; called = s.called.items; variables = s.variables.entries }
+
 module _ (file : List ℕ) where
   pub record Exact (pieces : List Piece) (f : Found) : Type 0 where
     pub warnings : AllZip (IsWarning file) (suspicious pieces) f.warnings
@@ -251,8 +256,10 @@ module _ (file : List ℕ) where
       (begins-after : BeginsAfter file rest after (length (text_piece line text)) opens)
       (begins-further : BeginsFurther file rest (length (text_piece line text ++ pieces_after ts after)) beyond) (follows : IsRestAfter after beyond next)
       (old new : Found) (warns : AddsSign file start (first_sign text) old.warnings new.warnings)
-      (fails : FailsAfter file opens ts after old.failing new.failing) (defines : AddsAfter file opens definers ts after old.defined new.defined) (calls : AddsAfter file opens callers ts after old.called new.called)
-      (passes : PassesAfter file opens ts after old.variables new.variables) where
+      (fails : AddsFailing file opens (has_failing (action_tokens after ts)) old.failing new.failing)
+      (defines : AddsName file opens (name_after definers (action_tokens after ts)) old.defined new.defined)
+      (calls : AddsName file opens (name_after callers (action_tokens after ts)) old.called new.called)
+      (passes : Passes file opens (action_tokens after ts) old.variables new.variables) where
     abbrev own : List Piece
     own = text_piece line text
 
@@ -267,12 +274,12 @@ module _ (file : List ℕ) where
       warnings = begins-more (IsWarning file) (λ w. IsPlace file (warned_place w)) (suspicious pieces) old.warnings new.warnings b.warnings
           (adds-all (IsWarning file) (λ w. IsPlace file (warned_place w)) (λ s w is. is.place) (suspicious own) old.warnings new.warnings warned);
       failing = begins-more (IsFailing file) (λ w. IsPlace file (warned_place w)) (failing_from 0 pieces) old.failing new.failing b.failing
-          (fails-placed file opens old.failing new.failing ts after fails);
+          (fails-placed file opens old.failing new.failing (has_failing (action_tokens after ts)) fails);
       defined = begins-more (IsNamed file) (λ n. IsPlace file (named_place n)) (names_from definers 0 pieces) old.defined new.defined b.defined
-          (after-placed file opens old.defined new.defined definers ts after defines);
+          (name-placed file opens old.defined new.defined (name_after definers (action_tokens after ts)) defines);
       called = begins-more (IsNamed file) (λ n. IsPlace file (named_place n)) (names_from callers 0 pieces) old.called new.called b.called
-          (after-placed file opens old.called new.called callers ts after calls);
-      variables = after-keeps file opens ts after old.variables new.variables passes b.variables;
+          (name-placed file opens old.called new.called (name_after callers (action_tokens after ts)) calls);
+      variables = passes-placed file opens (action_tokens after ts) old.variables new.variables passes b.variables;
     }
 
     done-more : (d : Done old) → list_any is_unreadable d.pieces ≡ true → Done new

@@ -1,5 +1,5 @@
 -- What one part of a file adds to what is found.
-use Rattle.std.proofs.Common.{arith, ◌≡◌, ◌∙◌, ◌≤◌, ◌<◌, ◌+◌, ℕ, Bool, true, false, List, [], ◌∷◌, ◌++◌, Option, Some, None, All, refl, sym, ap, subst, length, map}
+use Rattle.std.proofs.Common.{arith, ◌≡◌, ◌∙◌, ◌≤◌, ◌<◌, ◌+◌, ℕ, Bool, true, false, List, [], ◌∷◌, ◌++◌, Option, Some, None, All, refl, sym, ap, subst, length}
 use Rattle.std.proofs.Common.{length-append}
 use Rattle.std.specs.List.{AllZip, cons_option, enumerate_from, filter_map}
 use Rattle.std.specs.Option.{option_map}
@@ -11,7 +11,6 @@ use Rattle.tmpl_lex.specs.Part.{pieces_after}
 use Rattle.tmpl_lex.specs.Piece.{Piece}
 use Rattle.tmpl_lex.specs.Place.{StandsAt}
 use Rattle.tmpl_lex.specs.Text.{text_piece}
-use Rattle.tmpl_lex.specs.View.{token_of}
 use Rattle.tmpl_lex.specs.declared.part.AfterText.{AfterText}
 use Rattle.tmpl_lex.specs.declared.part.AfterText.TheVariants as variant
 use Rattle.tmpl_lex.specs.declared.piece.Token as held
@@ -22,7 +21,7 @@ use Rattle.tmpl_problems.specs.computed.Failing.{IsFailing, failing_from, has_fa
 use Rattle.tmpl_problems.specs.Survey.{IsNamed, IsWarning, named_place, names_from, suspicious, tokens_in, warned_place}
 use Rattle.tmpl_problems.specs.Sign.{first_sign}
 use Rattle.tmpl_problems.specs.Tokens.{name_after}
-use Rattle.tmpl_problems.specs.computed.Adds.{AddsAfter, AddsAll, AddsFailing, AddsName, AddsSign, AddsZip, FailsAfter}
+use Rattle.tmpl_problems.specs.computed.Adds.{AddsAll, AddsFailing, AddsName, AddsSign, AddsZip}
 use Rattle.tmpl_problems.specs.declared.survey.Named.{Named}
 use Rattle.tmpl_problems.specs.declared.survey.Warning.{Warning}
 
@@ -58,6 +57,17 @@ adds-all {A = A} {B = B} R P so xs old new a = record { more = a.more; added = a
     by (x ∷ xs) [] z = absurd z
     by (x ∷ xs) (b ∷ bs) z = All-cons P b bs (so x b z.0) (by xs bs z.1)
 
+pub adds-nothing : {A B : Type 0} (R : A → B → Type 0) (old new : List B) → new ≡ old → AddsZip R [] old new
+adds-nothing R old new e = record { more = []; added = e ∙ sym (append-nil old); told = tt }
+
+-- more and more is added
+module _ {B : Type 0} (P : B → Type 0) where
+  pub adds-none : (old new : List B) → new ≡ old → AddsAll P old new
+  adds-none old new e = record { more = []; added = e ∙ sym (append-nil old); all = All-nil P }
+
+  pub adds-one : (old new : List B) (b : B) → new ≡ old ++ b ∷ [] → P b → AddsAll P old new
+  adds-one old new b e is = record { more = b ∷ []; added = e; all = All-cons P b [] is (All-nil P) }
+
 -- ---- names
 
 module _ (words : List (List ℕ)) where
@@ -72,36 +82,18 @@ module _ (words : List (List ℕ)) where
   names-text n line (b ∷ bytes) = refl
 
 module _ (file : List ℕ) (opens : ℕ) (old new : List Named) where
-  name-adds : (k : ℕ) → BeginsAt file k opens → (o : Option (List ℕ)) → AddsName file opens o old new
+  pub name-adds : (k : ℕ) → BeginsAt file k opens → (o : Option (List ℕ)) → AddsName file opens o old new
       → AddsZip (IsNamed file) (cons_option (option_map (λ (name : List ℕ). (k, name)) o) []) old new
-  name-adds k b None a = record { more = []; added = a ∙ sym (append-nil old); told = tt }
+  name-adds k b None a = adds-nothing (IsNamed file) old new a
   name-adds k b (Some name) a = record {
     more = a.one ∷ [];
     added = a.added;
     told = (record { name = a.name_is; begins = subst (λ at. BeginsAt file k at) (sym (a.start (begins-within file k opens b))) b; place = a.place }, tt);
   }
 
-  name-placed : (o : Option (List ℕ)) → AddsName file opens o old new → AddsAll (λ n. IsPlace file (named_place n)) old new
-  name-placed None a = record { more = []; added = a ∙ sym (append-nil old); all = All-nil (λ n. IsPlace file (named_place n)) }
-  name-placed (Some name) a = record {
-    more = a.one ∷ [];
-    added = a.added;
-    all = All-cons (λ n. IsPlace file (named_place n)) a.one [] a.place (All-nil (λ n. IsPlace file (named_place n)));
-  }
-
-  pub after-adds : (words : List (List ℕ)) (ts : List held.Token) (line k : ℕ) → BeginsAt file k opens → AddsAfter file opens words ts (variant.Action line) old new
-      → AddsZip (IsNamed file) (names_from words k (pieces_after ts (variant.Action line))) old new
-  after-adds words ts line k b a = name-adds k b (name_after words (map token_of ts)) a
-
-  pub nothing-adds : (words : List (List ℕ)) (ts : List held.Token) (k : ℕ) → AddsAfter file opens words ts variant.Nothing old new
-      → AddsZip (IsNamed file) (names_from words k (pieces_after ts variant.Nothing)) old new
-  nothing-adds words ts k a = record { more = []; added = a ∙ sym (append-nil old); told = tt }
-
-  pub after-placed : (words : List (List ℕ)) (ts : List held.Token) (after : AfterText) → AddsAfter file opens words ts after old new
-      → AddsAll (λ n. IsPlace file (named_place n)) old new
-  after-placed words ts variant.Nothing a = record { more = []; added = a ∙ sym (append-nil old); all = All-nil (λ n. IsPlace file (named_place n)) }
-  after-placed words ts (variant.Action line) a = name-placed (name_after words (map token_of ts)) a
-  after-placed words ts (variant.Unreadable line) a = name-placed (name_after words (map token_of ts)) a
+  pub name-placed : (o : Option (List ℕ)) → AddsName file opens o old new → AddsAll (λ n. IsPlace file (named_place n)) old new
+  name-placed None a = adds-none (λ n. IsPlace file (named_place n)) old new a
+  name-placed (Some name) a = adds-one (λ n. IsPlace file (named_place n)) old new a.one a.added a.place
 
 -- ---- actions that fail
 
@@ -116,35 +108,22 @@ failing-text n line [] = refl
 failing-text n line (b ∷ bytes) = refl
 
 module _ (file : List ℕ) (opens : ℕ) (old new : List Warning) where
-  failing-adds : (k : ℕ) → BeginsAt file k opens → (b : Bool) → AddsFailing file opens b old new
+  pub fails-adds : (k : ℕ) → BeginsAt file k opens → (b : Bool) → AddsFailing file opens b old new
       → AddsZip (IsFailing file) (cons_option (if b then Some k else None) []) old new
-  failing-adds k b false a = record { more = []; added = a ∙ sym (append-nil old); told = tt }
-  failing-adds k b true a = record {
+  fails-adds k b false a = adds-nothing (IsFailing file) old new a
+  fails-adds k b true a = record {
     more = a.one ∷ [];
     added = a.added;
     told = (record { begins = subst (λ at. BeginsAt file k at) (sym (a.start (begins-within file k opens b))) b; place = a.place }, tt);
   }
 
-  failing-placed : (b : Bool) → AddsFailing file opens b old new → AddsAll (λ w. IsPlace file (warned_place w)) old new
-  failing-placed false a = record { more = []; added = a ∙ sym (append-nil old); all = All-nil (λ w. IsPlace file (warned_place w)) }
-  failing-placed true a = record {
-    more = a.one ∷ [];
-    added = a.added;
-    all = All-cons (λ w. IsPlace file (warned_place w)) a.one [] a.place (All-nil (λ w. IsPlace file (warned_place w)));
-  }
+  pub fails-none : AddsFailing file opens (has_failing []) old new → AddsZip (IsFailing file) [] old new
+  unfolding action_in
+  fails-none a = adds-nothing (IsFailing file) old new a
 
-  pub action-fails : (ts : List held.Token) (line k : ℕ) → BeginsAt file k opens → FailsAfter file opens ts (variant.Action line) old new
-      → AddsZip (IsFailing file) (failing_from k (pieces_after ts (variant.Action line))) old new
-  action-fails ts line k b a = failing-adds k b (has_failing (map token_of ts)) a
-
-  pub nothing-fails : (ts : List held.Token) (k : ℕ) → FailsAfter file opens ts variant.Nothing old new
-      → AddsZip (IsFailing file) (failing_from k (pieces_after ts variant.Nothing)) old new
-  nothing-fails ts k a = record { more = []; added = a ∙ sym (append-nil old); told = tt }
-
-  pub fails-placed : (ts : List held.Token) (after : AfterText) → FailsAfter file opens ts after old new → AddsAll (λ w. IsPlace file (warned_place w)) old new
-  fails-placed ts variant.Nothing a = record { more = []; added = a ∙ sym (append-nil old); all = All-nil (λ w. IsPlace file (warned_place w)) }
-  fails-placed ts (variant.Action line) a = failing-placed (has_failing (map token_of ts)) a
-  fails-placed ts (variant.Unreadable line) a = failing-placed (has_failing (map token_of ts)) a
+  pub fails-placed : (b : Bool) → AddsFailing file opens b old new → AddsAll (λ w. IsPlace file (warned_place w)) old new
+  fails-placed false a = adds-none (λ w. IsPlace file (warned_place w)) old new a
+  fails-placed true a = adds-one (λ w. IsPlace file (warned_place w)) old new a.one a.added a.place
 
 -- ---- signs
 
@@ -165,7 +144,7 @@ pub sign-adds : (file : List ℕ) (start line : ℕ) (bytes : List ℕ) (old new
 sign-adds file start line bytes old new stands a = subst (λ xs. AddsZip (IsWarning file) xs old new) (sym (suspicious-text line bytes)) (by (first_sign bytes) a)
   where
     by : (o : Option (ℕ × List ℕ)) → AddsSign file start o old new → AddsZip (IsWarning file) (cons_option (option_map (λ (s : ℕ × List ℕ). (bytes, s.0, s.1)) o) []) old new
-    by None a = record { more = []; added = a ∙ sym (append-nil old); told = tt }
+    by None a = adds-nothing (IsWarning file) old new a
     by (Some at) a = record {
       more = a.one ∷ [];
       added = a.added;

@@ -3,10 +3,11 @@ use Rattle.std.proofs.Common.{arith, ◌≡◌, ◌∙◌, ◌≤◌, ◌<◌, �
 use Rattle.std.proofs.Common.{append_assoc}
 use Rattle.std.specs.List.{AllZip, cons_option, enumerate_from}
 use Rattle.std.specs.Prelude.{slice_get}
-use Rattle.std.proofs.lemmas.List.{append-nil, length-take, map-append, take_all, take_more}
-use Rattle.std.proofs.lemmas.List.Elements.{All-append, All-cons, All-head, All-nil, All-tail, filter-append, filter_map-append}
+use Rattle.std.proofs.lemmas.List.{length-take, map-append, take_all, take_more}
+use Rattle.std.proofs.lemmas.List.Elements.{All-append, All-head, All-tail, filter-append, filter_map-append}
 use Rattle.std.proofs.lemmas.List.Sums.{fold-append}
 use Rattle.std.proofs.lemmas.Option.{same_Some}
+use Rattle.std.proofs.lemmas.Slice.Zip.{AllZip-long}
 use Rattle.tmpl_lex.specs.View.{token_of}
 use Rattle.tmpl_lex.specs.declared.piece.Token as held
 use Rattle.tmpl_syntax.specs.declared.column.Place.{Place}
@@ -25,12 +26,6 @@ module _ {K X : Type 0} (P : X → Type 0) where
 
 -- more and more is added
 module _ {B : Type 0} (P : B → Type 0) where
-  pub adds-none : (old : List B) → AddsAll P old old
-  adds-none old = record { more = []; added = sym (append-nil old); all = All-nil P }
-
-  pub adds-one : (old new : List B) (b : B) → new ≡ old ++ b ∷ [] → P b → AddsAll P old new
-  adds-one old new b e is = record { more = b ∷ []; added = e; all = All-cons P b [] is (All-nil P) }
-
   pub adds-both : (old mid new : List B) → AddsAll P old mid → AddsAll P mid new → AddsAll P old new
   adds-both old mid new a b = record {
     more = a.more ++ b.more;
@@ -88,12 +83,6 @@ notes-then place count names i d es old new b is first so within =
 
 -- ---- what is told of those that are noted
 
-zip-length : {A B : Type 0} (R : A → B → Type 0) (xs : List A) (ys : List B) → AllZip R xs ys → length xs ≡ length ys
-zip-length R [] [] z = refl
-zip-length R [] (y ∷ ys) z = absurd z
-zip-length R (x ∷ xs) [] z = absurd z
-zip-length R (x ∷ xs) (y ∷ ys) z = ap suc (zip-length R xs ys z.1)
-
 zip-at : {A B : Type 0} (R : A → B → Type 0) (xs : List A) (ys : List B) (i : ℕ) (y : B) → AllZip R xs ys → slice_get ys i ≡ Some y → (x : A) × (take (suc i) xs ≡ take i xs ++ x ∷ []) × R x y
 zip-at R [] [] i y z is = cc
 zip-at R [] (b ∷ ys) i y z is = absurd z
@@ -121,4 +110,4 @@ module _ (file : List ℕ) (uses : List (ℕ × List ℕ)) (ds : List Declared) 
   pub unused-all : AllZip (IsNoted file uses) ds es → length es ≤ i → (old new : List Warning)
       → AddsZip (IsUnused file) (filter (λ d. not (is_used uses d)) (take i ds)) old new → AddsZip (IsUnused file) (filter (λ d. not (is_used uses d)) ds) old new
   unused-all z past old new a =
-      subst (λ l. AddsZip (IsUnused file) (filter (λ d. not (is_used uses d)) l) old new) (take_all i ds (omega (arith, past, zip-length (IsNoted file uses) ds es z))) a
+      subst (λ l. AddsZip (IsUnused file) (filter (λ d. not (is_used uses d)) l) old new) (take_all i ds (omega (arith, past, AllZip-long (IsNoted file uses) ds es z))) a

@@ -21,13 +21,10 @@ const MOST_BYTES: usize = 200;
 pub(crate) fn failing_text(alloc: Global, failing: Failing<'_>) -> Result<String, AllocError> {
     let said = Sentence::new(alloc).say("always fails: ");
     match failing {
-        Failing::Command(operands, is_piped) => {
-            let said = say_command(alloc, said, operands, is_piped)?;
-            if is_piped {
-                said.finish()
-            } else {
-                say_cure(alloc, said, operands)?.finish()
-            }
+        Failing::Command(operands, true) => say_command(alloc, said, operands, true)?.finish(),
+        Failing::Command(operands, false) => {
+            let said = say_command(alloc, said, operands, false)?;
+            say_cure(alloc, said, operands)?.finish()
         }
         Failing::Argument(operands, func) => {
             let said = say_misplaced(said, func);
@@ -45,7 +42,7 @@ fn say_command(
 ) -> Result<Sentence, AllocError> {
     match operands {
         [Operand::Function(func), arguments @ ..] => {
-            let count = arguments.len() as u64 + if is_piped { 1 } else { 0 };
+            let count = arguments.len() as u64 + u64::from(is_piped);
             if func.takes(count) {
                 return say_refused(alloc, said, *func, arguments);
             }
@@ -86,9 +83,8 @@ fn say_no_function(
 
 /// Says that a function stands after its first argument, or without parentheses around it and its own.
 fn say_misplaced(said: Sentence, func: Func) -> Sentence {
-    said.say("\"")
-        .say(func.name())
-        .say("\" stands among arguments")
+    said.quote(func.name().as_bytes())
+        .say(" stands among arguments")
 }
 
 /// Says that a function refuses its arguments.
@@ -100,30 +96,21 @@ fn say_refused(
 ) -> Result<Sentence, AllocError> {
     let mut text = Vec::new(alloc);
     print_operands(arguments, &mut text)?;
-    Ok(
-        said.say("\"")
-            .say(func.name())
-            .say("\" refuses ")
-            .show(text.as_slice()),
-    )
+    let said = said.quote(func.name().as_bytes()).say(" refuses ");
+    Ok(said.show(text.as_slice()))
 }
 
 /// Says how many arguments a function takes, and how many it has.
 fn say_counts(said: Sentence, func: Func, count: u64) -> Sentence {
-    let said = said.say("\"").say(func.name()).say("\" takes ");
-    let said = match (
-        func.takes(0),
-        func.takes(1),
-        func.takes(2),
-        func.takes(3),
-        func.takes(4),
-    ) {
-        (_, true, false, _, _) => said.say("1 argument"),
-        (_, false, true, false, _) => said.say("2 arguments"),
-        (_, true, _, true, false) => said.say("1 to 3 arguments"),
-        (_, false, _, _, _) => said.say("2 or more arguments"),
-        _ => said.say("1 or more arguments"),
-    };
+    let said = said.quote(func.name().as_bytes()).say(" takes ");
+    let takes = (func.takes(1), func.takes(2), func.takes(3), func.takes(4));
+    let said = said.say(match takes {
+        (true, false, _, _) => "1 argument",
+        (false, true, false, _) => "2 arguments",
+        (true, _, true, false) => "1 to 3 arguments",
+        (false, _, _, _) => "2 or more arguments",
+        _ => "1 or more arguments",
+    });
     match count {
         0 => said.say(" and has none"),
         _ => said.say(" and has ").count(count),
@@ -198,15 +185,11 @@ fn is_choice(operands: &[Operand]) -> bool {
     };
     let mut is_wanted = true;
     for operand in choices {
-        let is_there = if is_wanted {
-            matches!(operand, Operand::Text(_) | Operand::Number(_))
-        } else {
-            matches!(operand, Operand::Function(Func::Or))
+        is_wanted = match (is_wanted, operand) {
+            (true, Operand::Text(_) | Operand::Number(_)) => false,
+            (false, Operand::Function(Func::Or)) => true,
+            _ => return false,
         };
-        if !is_there {
-            return false;
-        }
-        is_wanted = !is_wanted;
     }
     !is_wanted
 }
@@ -239,62 +222,49 @@ struct Split<'t> {
 
 /// Where a command is split: at an `or`, at an `and`, after a `not`, at a comparison, or before another function.
 fn split_of(operands: &[Operand]) -> Option<Split<'_>> {
-    for wanted in [Joint::Or, Joint::And] {
-        if let Some(split) = split_at_joint(operands, wanted) {
-            return Some(split);
-        }
+    if let Some(split) = split_at(operands, Joint::Or).or(split_at(operands, Joint::And)) {
+        return Some(split);
     }
     if let [Operand::Function(Func::Not), _, _, ..] = operands {
         return Some(split_before(operands, 1));
     }
-    if let Some(split) = split_at_joint(operands, Joint::Comparison) {
-        return Some(split);
-    }
-    for (index, operand) in operands.iter().enumerate() {
-        if index > 0 && matches!(operand, Operand::Function(_)) {
-            return Some(split_before(operands, index));
-        }
-    }
-    None
+    split_at(operands, Joint::Comparison).or(split_at(operands, Joint::Other))
 }
 
-/// Functions that others write between their arguments.
+/// Functions that others write between their arguments, and any other.
 #[derive(Clone, Copy)]
 enum Joint {
     Or,
     And,
     Comparison,
+    Other,
 }
 
 /// Where the first function of this kind stands that is not the first operand.
-fn split_at_joint(operands: &[Operand], wanted: Joint) -> Option<Split<'_>> {
-    for (index, operand) in operands.iter().enumerate() {
-        if index > 0 {
-            if let Operand::Function(func) = operand {
-                if is_joint(*func, wanted) {
-                    let split = split_before(operands, index);
-                    return Some(Split {
-                        func: Some(*func),
-                        rest: split.rest.get(1..).unwrap_or(&[]),
-                        ..split
-                    });
-                }
+fn split_at(operands: &[Operand], wanted: Joint) -> Option<Split<'_>> {
+    for (index, operand) in operands.iter().enumerate().skip(1) {
+        let Operand::Function(func) = operand else {
+            continue;
+        };
+        let split = split_before(operands, index);
+        match (wanted, *func) {
+            (Joint::Or, Func::Or)
+            | (Joint::And, Func::And)
+            | (
+                Joint::Comparison,
+                Func::Eq | Func::Ne | Func::Lt | Func::Le | Func::Gt | Func::Ge,
+            ) => {
+                return Some(Split {
+                    func: Some(*func),
+                    rest: split.rest.get(1..).unwrap_or(&[]),
+                    ..split
+                });
             }
+            (Joint::Other, _) => return Some(split),
+            _ => {}
         }
     }
     None
-}
-
-/// Whether a function is of this kind.
-fn is_joint(func: Func, wanted: Joint) -> bool {
-    match wanted {
-        Joint::Or => matches!(func, Func::Or),
-        Joint::And => matches!(func, Func::And),
-        Joint::Comparison => matches!(
-            func,
-            Func::Eq | Func::Ne | Func::Lt | Func::Le | Func::Gt | Func::Ge
-        ),
-    }
 }
 
 /// What stands before the operand of this number, and it with the rest.
@@ -309,27 +279,18 @@ fn split_before(operands: &[Operand], index: usize) -> Split<'_> {
 /// Writes a command with each function before its arguments, down to this many parentheses.
 #[cycle(write)]
 fn write_command(levels: u64, operands: &[Operand], text: &mut Vec<u8>) -> Result<(), AllocError> {
-    match split_of(operands) {
-        Some(
-            Split {
-                func: Some(func),
-                front,
-                rest,
-            },
-        ) => {
-            text.extend_from_slice(func.name().as_bytes())?;
-            text.extend_from_slice(b" ")?;
-            write_part(levels, front, text)?;
-            text.extend_from_slice(b" ")?;
-            write_part(levels, rest, text)
-        }
-        Some(Split { front, rest, .. }) => {
-            print_operands(front, text)?;
-            text.extend_from_slice(b" ")?;
-            write_part(levels, rest, text)
-        }
-        None => print_operands(operands, text),
+    let Some(split) = split_of(operands) else {
+        return print_operands(operands, text);
+    };
+    if let Some(func) = split.func {
+        text.extend_from_slice(func.name().as_bytes())?;
+        text.extend_from_slice(b" ")?;
+        write_part(levels, split.front, text)?;
+    } else {
+        print_operands(split.front, text)?;
     }
+    text.extend_from_slice(b" ")?;
+    write_part(levels, split.rest, text)
 }
 
 /// Writes operands as one: in parentheses where they are several.
@@ -346,13 +307,11 @@ fn write_part(levels: u64, operands: &[Operand], text: &mut Vec<u8>) -> Result<(
 /// Prints the commands of a pipeline.
 #[cycle(print)]
 fn print_commands(commands: &[Command], text: &mut Vec<u8>) -> Result<(), AllocError> {
-    let mut first = true;
-    for command in commands {
-        if !first {
+    for (index, command) in commands.iter().enumerate() {
+        if index > 0 {
             text.extend_from_slice(b" | ")?;
         }
         print_operands(command.operands.as_slice(), text)?;
-        first = false;
     }
     Ok(())
 }
@@ -360,13 +319,11 @@ fn print_commands(commands: &[Command], text: &mut Vec<u8>) -> Result<(), AllocE
 /// Prints the operands of a command.
 #[cycle(print)]
 fn print_operands(operands: &[Operand], text: &mut Vec<u8>) -> Result<(), AllocError> {
-    let mut first = true;
-    for operand in operands {
-        if !first {
+    for (index, operand) in operands.iter().enumerate() {
+        if index > 0 {
             text.extend_from_slice(b" ")?;
         }
         print_operand(operand, text)?;
-        first = false;
     }
     Ok(())
 }

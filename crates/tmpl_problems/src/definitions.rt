@@ -1,8 +1,6 @@
 //! The templates that a file defines and calls, by the tokens of its actions.
-ghost use Rattle.std.specs.Prelude.{◌≡◌, ◌==◌, map};
-ghost use Rattle.std.specs.List.{list_any};
+ghost use Rattle.std.specs.Prelude.{◌≡◌, map};
 ghost use Rattle.std.specs.Option.{option_copied};
-ghost use Rattle.std.specs.Str.{byte};
 ghost use Rattle.tmpl_lex.specs.View.{token_of};
 ghost use Rattle.tmpl_hints.specs.Action as action;
 ghost use Rattle.tmpl_problems.specs.Tokens as spec;
@@ -34,16 +32,8 @@ fn quoted_name<'b>(token: Token<'b>) -> Option<&'b [u8]>
     ensures { option_copied result ≡ spec.quoted_name (token_of token.entry) }
 {
     match (token.kind, token.bytes) {
-        (TokenKind::String | TokenKind::RawString, [_, name @ .., _]) if !has_backslash(name) => {
-            Some(name)
-        }
+        (TokenKind::String | TokenKind::RawString, [_, name @ .., _]) if !name.contains(&b'\\') =>
+            Some(name),
         _ => None,
     }
-}
-
-/// Whether a backslash is among the bytes.
-fn has_backslash(bytes: &[u8]) -> bool
-    ensures { result ≡ list_any (λ b. b == byte "\\") bytes.now }
-{
-    bytes.contains(&b'\\')
 }

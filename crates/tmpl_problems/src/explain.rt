@@ -75,42 +75,30 @@ fn detail_by(
 ) -> Result<String, AllocError> {
     match about {
         About::Inside(open) => misplaced_text(alloc, role_of(tokens), open_in(*open)),
-        About::First(line) => second_detail(alloc, file, tokens, *line),
+        About::First(line) => second_text(alloc, file, tokens, *line),
         _ => detail_of(alloc, tokens),
     }
 }
 
 /// The message about a second definition in this file whose header has these tokens, and of which the first is on this
 /// line.
-fn second_detail(
+fn second_text(
     alloc: Global,
     file: &str,
     tokens: &[Token<'_>],
     first: u64,
 ) -> Result<String, AllocError> {
     let reading = read_action(alloc, tokens)?;
-    let name = match defined_name(&reading) {
-        Some(name) => name,
-        None => base_name(file),
+    let name = match &reading {
+        Reading::Read(Action::Define(name) | Action::Block(name, _)) => name.as_slice(),
+        _ => base_name(file),
     };
-    second_text(alloc, name, first)
-}
-
-/// The name of the template that an action defines which is read so, if it does.
-fn defined_name(reading: &Reading) -> Option<&[u8]> {
-    match reading {
-        Reading::Read(action) => name_in(action),
-        _ => None,
-    }
-}
-
-/// The name of the template that an action defines, if it does.
-fn name_in(action: &Action) -> Option<&[u8]> {
-    match action {
-        Action::Define(name) => Some(name.as_slice()),
-        Action::Block(name, _) => Some(name.as_slice()),
-        _ => None,
-    }
+    Sentence::new(alloc)
+        .say("second definition of ")
+        .quote(name)
+        .say(", the first in line ")
+        .count(first)
+        .finish()
 }
 
 /// What is wrong, of which this is known.
@@ -129,29 +117,15 @@ fn open_in(open: Option<tmpl_syntax::Open>) -> Option<Open> {
 
 /// What is open.
 fn open_as(open: tmpl_syntax::Open) -> Open {
-    Open {
-        opening: opening_as(open.opening),
-        line: open.line,
-    }
-}
-
-/// What opens it.
-fn opening_as(opening: tmpl_syntax::Opening) -> Opening {
-    match opening {
+    let opening = match open.opening {
         tmpl_syntax::Opening::Control(Control::If) => Opening::If,
         tmpl_syntax::Opening::Control(Control::With) => Opening::With,
         tmpl_syntax::Opening::Control(Control::Range) => Opening::Range,
         tmpl_syntax::Opening::Define => Opening::Define,
         tmpl_syntax::Opening::Block => Opening::Block,
+    };
+    Open {
+        opening,
+        line: open.line,
     }
-}
-
-/// The message about a second definition of this name, of which the first is on this line.
-fn second_text(alloc: Global, name: &[u8], first: u64) -> Result<String, AllocError> {
-    Sentence::new(alloc)
-        .say("second definition of ")
-        .quote(name)
-        .say(", the first in line ")
-        .count(first)
-        .finish()
 }

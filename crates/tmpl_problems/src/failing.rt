@@ -1,7 +1,7 @@
 //! Commands that fail at each run that gets to them, whatever the data is.
 ghost use Rattle.std.specs.Prelude.{◌≡◌, ◌||◌, false, IfOk, is_some, option_map};
 ghost use Rattle.tmpl_funcs.specs.View.{values_of};
-ghost use Rattle.tmpl_grammar.specs.View.{action_of, commands_in, operand_of, operands_in};
+ghost use Rattle.tmpl_grammar.specs.View.{commands_in, operand_of, operands_in};
 ghost use Rattle.tmpl_grammar.specs.computed.View.{action_reading};
 ghost use Rattle.tmpl_problems.specs.Failing as spec;
 ghost use Rattle.tmpl_problems.specs.computed.Failing.{reading_fails};
@@ -29,23 +29,10 @@ pub(crate) fn failing_in_reading<'t>(
     ensures { IfOk result (λ o. is_some o ≡ reading_fails (action_reading reading.now)) }
 {
     match reading {
-        Reading::Read(action) => failing_in_action(alloc, action),
-        _ => Ok(None),
-    }
-}
-
-/// What fails first in an action, if something does.
-fn failing_in_action<'t>(
-    alloc: Global,
-    action: &'t Action,
-) -> Result<Option<Failing<'t>>, AllocError>
-    ensures { IfOk result (λ o. is_some o ≡ spec.action_fails (action_of action.now)) }
-{
-    match action {
-        Action::Pipeline(header) | Action::Open(_, header) | Action::ElseBranch(_, header) => {
-            failing_in(alloc, header.pipeline.commands.as_slice())
-        }
-        Action::Template(_, Some(pipeline)) | Action::Block(_, pipeline) => {
+        Reading::Read(
+            Action::Pipeline(header) | Action::Open(_, header) | Action::ElseBranch(_, header),
+        ) => failing_in(alloc, header.pipeline.commands.as_slice()),
+        Reading::Read(Action::Template(_, Some(pipeline)) | Action::Block(_, pipeline)) => {
             failing_in(alloc, pipeline.commands.as_slice())
         }
         _ => Ok(None),
@@ -135,24 +122,9 @@ fn always_fails(alloc: Global, operands: &[Operand], is_piped: bool) -> Result<b
     ensures { IfOk result (λ b. b ≡ spec.always_fails (operands_in operands.now) is_piped) }
 {
     match operands {
-        [] => Ok(true),
-        [first, arguments @ ..] => first_fails(alloc, first, arguments, is_piped),
-    }
-}
-
-/// Whether a command of this first operand and of others fails at each run that gets to it.
-fn first_fails(
-    alloc: Global,
-    first: &Operand,
-    arguments: &[Operand],
-    is_piped: bool,
-) -> Result<bool, AllocError>
-    ensures { IfOk result (λ b. b ≡ spec.first_fails (operand_of first.now) (operands_in arguments.now) is_piped) }
-{
-    match first {
-        Operand::Function(func) => call_fails(alloc, *func, arguments, is_piped),
-        Operand::Nil => Ok(true),
-        _ => Ok(has_argument(arguments, is_piped)),
+        [Operand::Function(func), arguments @ ..] => call_fails(alloc, *func, arguments, is_piped),
+        [] | [Operand::Nil, ..] => Ok(true),
+        [_, arguments @ ..] => Ok(has_argument(arguments, is_piped)),
     }
 }
 

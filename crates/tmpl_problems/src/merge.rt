@@ -9,11 +9,9 @@ use tmpl_syntax::Place;
 /// place the former stays.
 pub(crate) fn merge(
     alloc: Global,
-    gaps: Vec<Problem>,
-    others: Vec<Problem>,
+    mut gaps: Vec<Problem>,
+    mut others: Vec<Problem>,
 ) -> Result<Vec<Problem>, AllocError> {
-    let mut gaps = gaps;
-    let mut others = others;
     let mut merged = Vec::new(alloc);
     for _ in 0..gaps.len().saturating_add(others.len()) {
         if let Some(problem) = pop_last(&mut gaps, &mut others) {
@@ -26,18 +24,13 @@ pub(crate) fn merge(
 /// The later of the last of both; none where it is the second and the first stands there too.
 fn pop_last(gaps: &mut Vec<Problem>, others: &mut Vec<Problem>) -> Option<Problem> {
     match (start_of_last(gaps), start_of_last(others)) {
-        (_, None) => gaps.pop(),
-        (None, Some(_)) => others.pop(),
-        (Some(gap), Some(other)) => {
-            if gap > other {
-                gaps.pop()
-            } else if gap == other {
-                let _ = others.pop();
-                None
-            } else {
-                others.pop()
-            }
+        (Some(gap), Some(other)) if gap == other => {
+            let _ = others.pop();
+            None
         }
+        (Some(gap), Some(other)) if gap < other => others.pop(),
+        (None, _) => others.pop(),
+        _ => gaps.pop(),
     }
 }
 
@@ -50,10 +43,9 @@ fn start_of_last(problems: &Vec<Problem>) -> Option<usize> {
 pub(crate) fn beyond_of(
     alloc: Global,
     bytes: &[u8],
-    reversed: Vec<Problem>,
+    mut reversed: Vec<Problem>,
     most: usize,
 ) -> Result<Vec<Problem>, AllocError> {
-    let mut reversed = reversed;
     let mut beyond = Vec::new(alloc);
     let mut place = Place::first();
     for _ in 0..reversed.len().min(most) {

@@ -11,6 +11,7 @@ use tmpl_syntax::{About, ParseKind, Place, Refused};
 /// and what is wrong with them.
 #[derive(Drop)]
 pub(crate) struct Readable {
+    alloc: Global,
     pub(crate) bytes: Vec<u8>,
     pub(crate) gaps: Vec<Problem>,
     /// How many pieces were read.
@@ -34,7 +35,7 @@ pub(crate) fn read_on(alloc: Global, file: &[u8]) -> Result<Readable, AllocError
         if let AfterText::Unreadable(_) = part.after {
             place = place_in(place, file, part.opens);
         }
-        readable.pass(alloc, stretch, place, tokens.as_slice(), part)?;
+        readable.pass(stretch, place, tokens.as_slice(), part)?;
         match next {
             Some(after) => rest = after,
             None => return Ok(readable),
@@ -59,14 +60,16 @@ impl<'b> Stretch<'b> {
         next: Option<Rest<'b>>,
     ) -> Stretch<'b> {
         let from = file.len().saturating_sub(rest.bytes.len());
-        let to = match next {
-            Some(after) => file.len().saturating_sub(after.bytes.len()),
-            None => file.len(),
+        let beyond = match next {
+            Some(after) => after.bytes.len(),
+            None => 0,
         };
+        let onward = file.get(part.opens..).unwrap_or(&[]);
+        let (action, _) = onward.split_at(onward.len().saturating_sub(beyond));
         Stretch {
             before: file.get(from..part.opens).unwrap_or(&[]),
-            action: file.get(part.opens..to).unwrap_or(&[]),
-            onward: file.get(part.opens..).unwrap_or(&[]),
+            action,
+            onward,
         }
     }
 }
@@ -75,6 +78,7 @@ impl Readable {
     /// Nothing yet.
     fn new(alloc: Global) -> Readable {
         Readable {
+            alloc,
             bytes: Vec::new(alloc),
             gaps: Vec::new(alloc),
             count: 0,
@@ -86,14 +90,14 @@ impl Readable {
     /// counts.
     fn pass(
         &mut self,
-        alloc: Global,
         stretch: Stretch<'_>,
         place: Place,
         tokens: &[Token<'_>],
         part: Part<'_>,
     ) -> Result<(), AllocError> {
-        if self.gaps.len() == MOST_PROBLEMS && is_gap(part) || self.left > 0 {
-            self.left = self.left.saturating_add(usize::from(is_gap(part)));
+        let is_gap = matches!(part.after, AfterText::Unreadable(_));
+        if self.gaps.len() == MOST_PROBLEMS && is_gap || self.left > 0 {
+            self.left = self.left.saturating_add(usize::from(is_gap));
             return Ok(());
         }
         self.bytes.extend_from_slice(stretch.before)?;
@@ -105,9 +109,9 @@ impl Readable {
             AfterText::Action(_) => self.bytes.extend_from_slice(stretch.action)?,
             AfterText::Unreadable(_) => {
                 let after = stretch.onward.get(2..).unwrap_or(&[]);
-                let detail = unreadable(alloc, tokens, after)?;
+                let detail = unreadable(self.alloc, tokens, after)?;
                 self.gaps.push(gap_at(place, self.count, detail))?;
-                self.fill(alloc, stretch.action, tokens)?;
+                self.fill(stretch.action, tokens)?;
             }
         }
         self.count = self.count.saturating_add(1);
@@ -115,21 +119,15 @@ impl Readable {
     }
 
     /// Adds what stands in the place of an action that can't be read, of which these tokens were read.
-    fn fill(
-        &mut self,
-        alloc: Global,
-        action: &[u8],
-        tokens: &[Token<'_>],
-    ) -> Result<(), AllocError> {
+    fn fill(&mut self, action: &[u8], tokens: &[Token<'_>]) -> Result<(), AllocError> {
         let Some(room) = action.len().checked_sub(4) else {
             return self.pad(action.len());
         };
-        let kept = kept_in(alloc, action, tokens, room)?;
+        let kept = kept_in(self.alloc, action, tokens, room)?;
         self.bytes.extend_from_slice(b"{{")?;
         self.bytes.extend_from_slice(kept.as_slice())?;
         self.pad(room.saturating_sub(kept.len()))?;
-        self.bytes.extend_from_slice(b"}}")?;
-        Ok(())
+        self.bytes.extend_from_slice(b"}}")
     }
 
     /// Adds this many spaces.
@@ -139,11 +137,6 @@ impl Readable {
         }
         Ok(())
     }
-}
-
-/// Whether the action of a part can't be read.
-fn is_gap(part: Part<'_>) -> bool {
-    matches!(part.after, AfterText::Unreadable(_))
 }
 
 /// What is wrong at the place of an action that can't be read and stands after this many pieces.

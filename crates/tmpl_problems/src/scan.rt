@@ -36,7 +36,8 @@ pub(crate) fn rest_after<'b>(file: &'b [u8], rest: Rest<'b>, part: Part<'b>) -> 
 fn skip(file: &[u8], rest: Rest<'_>, opens: usize) -> Option<usize> {
     let inside = file.get(opens.saturating_add(2)..)?;
     let taken = if opens_comment(inside) {
-        comment_len(inside)?
+        let end = inside.windows(2).position(|pair| pair == b"*/".as_slice())?;
+        end.saturating_add(2)
     } else {
         next_delimiter(inside)?
     };
@@ -45,12 +46,6 @@ fn skip(file: &[u8], rest: Rest<'_>, opens: usize) -> Option<usize> {
         .saturating_sub(inside.len())
         .saturating_add(taken);
     after.checked_sub(file.len().saturating_sub(rest.bytes.len()))
-}
-
-/// How many bytes a comment takes with its `*/`.
-fn comment_len(inside: &[u8]) -> Option<usize> {
-    let end = inside.windows(2).position(|pair| pair == b"*/".as_slice())?;
-    Some(end.saturating_add(2))
 }
 
 /// How many bytes stand before the next `{{`, or up to the end of the next `}}`, if that comes first.

@@ -2,7 +2,7 @@
 //! actions that fail at each run that gets to them.
 
 ghost use Rattle.std.specs.Prelude.{◌≡◌, ◌<◌, ◌==◌, ◌&&◌, ℕ, List, [], ◌∷◌, IfOk, IfSome, OnOk};
-ghost use Rattle.std.specs.Prelude.{is_some, length, map, filter, not, option_map, string_bytes};
+ghost use Rattle.std.specs.Prelude.{length, map, filter, not, option_map, string_bytes};
 ghost use Rattle.std.specs.List.{AllZip};
 ghost use Rattle.std.specs.Option.{option_copied};
 ghost use Rattle.tmpl_lex.specs.View.{token_of};
@@ -11,10 +11,10 @@ ghost use Rattle.tmpl_syntax.specs.Column.{IsPlace};
 ghost use Rattle.tmpl_problems.specs.computed.Failing.{Fails, has_failing};
 ghost use Rattle.tmpl_problems.specs.Sign as sign;
 ghost use Rattle.tmpl_problems.specs.Tokens as token;
-ghost use Rattle.tmpl_problems.specs.Survey.{Declared, IsUnused, Names, Warns, callers, definers, is_used, named_place};
+ghost use Rattle.tmpl_problems.specs.Survey.{Declared, IsUnused, Names, Warns, callers, definers, is_used};
 ghost use Rattle.tmpl_problems.specs.Survey.{warned_place};
-ghost use Rattle.tmpl_problems.specs.computed.Adds.{AddsAfter, AddsAll, AddsFailing, AddsName, AddsSign, AddsZip};
-ghost use Rattle.tmpl_problems.specs.computed.Adds.{ArePlaced, FailsAfter, IsNoted, Notes, Passes, PassesAfter, mark, mark_each, note};
+ghost use Rattle.tmpl_problems.specs.computed.Adds.{AddsAll, AddsFailing, AddsName, AddsSign, AddsZip, action_tokens};
+ghost use Rattle.tmpl_problems.specs.computed.Adds.{ArePlaced, IsNoted, Notes, Passes, mark, mark_each, note};
 
 use crate::cure::failing_text;
 use crate::definitions::name_after;
@@ -105,11 +105,22 @@ pub fn survey_file<'b>(
             part.start,
             part.text,
         )?;
-        place = surveyor.pass_after(file, place, part.opens, part.after, tokens.as_slice())?;
+        let action = action_tokens(part.after, tokens.as_slice());
+        place = surveyor.pass_action(file, place, part.opens, action)?;
         match rest_after(file, rest, part) {
             Some(next) => rest = next,
             None => return surveyor.finish(),
         }
+    }
+}
+
+/// The tokens of the action after a text; none where no action stands there.
+fn action_tokens<'t, 'b>(after: AfterText, tokens: &'t [Token<'b>]) -> &'t [Token<'b>]
+    ensures { map token_of result.now ≡ action_tokens after tokens.now }
+{
+    match after {
+        AfterText::Nothing => &[],
+        AfterText::Action(_) | AfterText::Unreadable(_) => tokens,
     }
 }
 
@@ -129,35 +140,6 @@ impl<'b> Surveyor<'b> {
             defined: Vec::new(alloc),
             called: Vec::new(alloc),
             variables: IndexMap::with_hasher(alloc, hash),
-        }
-    }
-
-    /// Notes the templates that the action after a text defines and calls, and the variables that it declares and uses.
-    fn pass_after(
-        &mut self,
-        file: &[u8],
-        place: Place,
-        opens: usize,
-        after: AfterText,
-        tokens: &[Token<'b>],
-    ) -> Result<Place, AllocError>
-        requires { IsPlace file.now place }
-        ensures variables { OnOk result (PassesAfter file.now opens tokens.now after
-            self.old.variables.entries self.new.variables.entries) }
-        ensures warnings { self.new.warnings ≡ self.old.warnings }
-        ensures defined { OnOk result (AddsAfter file.now opens definers tokens.now after
-            self.old.defined.items self.new.defined.items) }
-        ensures called { OnOk result (AddsAfter file.now opens callers tokens.now after
-            self.old.called.items self.new.called.items) }
-        ensures failing { OnOk result (FailsAfter file.now opens tokens.now after
-            self.old.failing.items self.new.failing.items) }
-        ensures place { IfOk result (λ p. IsPlace file.now p) }
-    {
-        match after {
-            AfterText::Nothing => Ok(place),
-            AfterText::Action(_) | AfterText::Unreadable(_) => self.pass_action(
-                file, place, opens, tokens,
-            ),
         }
     }
 
@@ -311,7 +293,12 @@ fn pass_name<'b>(
     match name {
         Some(name) => {
             let here = place_in(place, file, opens);
-            found.push(named_at(name, here))?;
+            found.push(Named {
+                name,
+                start: here.start,
+                line: here.line,
+                column: here.column,
+            })?;
             Ok(here)
         }
         None => Ok(place),
@@ -333,37 +320,11 @@ fn pass_failing(
         failing.old.items failing.new.items) }
     ensures place { IfOk result (λ p. IsPlace file.now p) }
 {
-    let text = failing_words(alloc, tokens)?;
-    push_failing(failing, file, place, opens, text)
-}
-
-/// The message about the action of these tokens, if it has a command that fails at each run that gets to it.
-fn failing_words(alloc: Global, tokens: &[Token<'_>]) -> Result<Option<String>, AllocError>
-    ensures { IfOk result (λ o. is_some o ≡ has_failing (map token_of tokens.now)) }
-{
     let reading = read_action(alloc, tokens)?;
     match failing_in_reading(alloc, &reading)? {
-        Some(found) => Ok(Some(failing_text(alloc, found)?)),
-        None => Ok(None),
-    }
-}
-
-/// Warns of the action that opens there by these words, if there are some. Says up to where columns were counted.
-fn push_failing(
-    failing: &mut Vec<Warning>,
-    file: &[u8],
-    place: Place,
-    opens: usize,
-    text: Option<String>,
-) -> Result<Place, AllocError>
-    requires { IsPlace file.now place }
-    ensures added { OnOk result (AddsFailing file.now opens (is_some text) failing.old.items failing.new.items) }
-    ensures place { IfOk result (λ p. IsPlace file.now p) }
-{
-    match text {
-        Some(text) => {
+        Some(found) => {
             let here = place_in(place, file, opens);
-            failing.push(warning_at(here, text))?;
+            failing.push(warning_at(here, failing_text(alloc, found)?))?;
             Ok(here)
         }
         None => Ok(place),
@@ -437,19 +398,6 @@ fn use_variable(variables: &mut Variables<'_>, name: &[u8])
 {
     if let Some(variable) = variables.get_mut(name) {
         variable.is_used = true;
-    }
-}
-
-/// A template that is named at a place.
-fn named_at(name: &[u8], place: Place) -> Named<'_>
-    ensures name { result.name.now ≡ name.now }
-    ensures place { named_place result ≡ place }
-{
-    Named {
-        name,
-        start: place.start,
-        line: place.line,
-        column: place.column,
     }
 }
 

@@ -15,9 +15,13 @@ use Rattle.tmpl_syntax.specs.declared.column.Place.{Place}
 use Rattle.tmpl_problems.specs.declared.survey.Named.{Named}
 use Rattle.tmpl_problems.specs.declared.survey.Variable.{Variable}
 use Rattle.tmpl_problems.specs.declared.survey.Warning.{Warning}
-use Rattle.tmpl_problems.specs.computed.Failing.{has_failing}
 use Rattle.tmpl_problems.specs.Survey.{Declared, is_used, named_place, warned_place}
-use Rattle.tmpl_problems.specs.Tokens.{declared_names, name_after, used_names}
+use Rattle.tmpl_problems.specs.Tokens.{declared_names, used_names}
+
+-- the tokens of the action after a text; none where no action stands there
+abbrev pub action_tokens : AfterText → List held.Token → List Token
+action_tokens variant.Nothing ts = []
+action_tokens other ts = map token_of ts
 
 -- a name is added, reported there
 pub record AddsOne (file : List ℕ) (opens : ℕ) (name : List ℕ) (old new : List Named) : Type 0 where
@@ -32,11 +36,6 @@ abbrev pub AddsName : List ℕ → ℕ → Option (List ℕ) → List Named → 
 AddsName file opens None old new = new ≡ old
 AddsName file opens (Some name) old new = AddsOne file opens name old new
 
--- .. that the action after a text gives after one of these words
-abbrev pub AddsAfter : List ℕ → ℕ → List (List ℕ) → List held.Token → AfterText → List Named → List Named → Type 0
-AddsAfter file opens words ts variant.Nothing old new = new ≡ old
-AddsAfter file opens words ts other old new = AddsName file opens (name_after words (map token_of ts)) old new
-
 -- an action is added that fails, reported there
 pub record AddsAction (file : List ℕ) (opens : ℕ) (old new : List Warning) : Type 0 where
   pub one : Warning
@@ -48,11 +47,6 @@ pub record AddsAction (file : List ℕ) (opens : ℕ) (old new : List Warning) :
 abbrev pub AddsFailing : List ℕ → ℕ → Bool → List Warning → List Warning → Type 0
 AddsFailing file opens false old new = new ≡ old
 AddsFailing file opens true old new = AddsAction file opens old new
-
--- .. of that after a text
-abbrev pub FailsAfter : List ℕ → ℕ → List held.Token → AfterText → List Warning → List Warning → Type 0
-FailsAfter file opens ts variant.Nothing old new = new ≡ old
-FailsAfter file opens ts other old new = AddsFailing file opens (has_failing (map token_of ts)) old new
 
 -- a warning of a sign is added, reported there
 pub record AddsWarning (file : List ℕ) (start : ℕ) (at : ℕ × List ℕ) (old new : List Warning) : Type 0 where
@@ -103,10 +97,6 @@ pub record Passes (file : List ℕ) (opens : ℕ) (ts : List Token) (old new : L
   pub noted : List (Bor (List ℕ) × Variable)
   pub notes : Notes file opens (declared_names ts) old noted
   pub marks : new ≡ mark_each (used_names ts) noted
-
-abbrev pub PassesAfter : List ℕ → ℕ → List held.Token → AfterText → List (Bor (List ℕ) × Variable) → List (Bor (List ℕ) × Variable) → Type 0
-PassesAfter file opens ts variant.Nothing old new = new ≡ old
-PassesAfter file opens ts other old new = Passes file opens (map token_of ts) old new
 
 -- the variable is noted, as it is declared there and used so far
 pub record IsNoted (file : List ℕ) (uses : List (ℕ × List ℕ)) (d : Declared) (e : Bor (List ℕ) × Variable) : Type 0 where

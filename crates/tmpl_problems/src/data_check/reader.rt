@@ -16,7 +16,7 @@ const MOST_SHOWN: usize = 80;
 const MOST_OPEN: usize = 127;
 
 /// What kind of thing is wrong.
-#[derive(Clone, Copy, PartialEq, Eq)]
+#[derive(Clone, Copy, PartialEq)]
 pub(crate) enum Flaw {
     NotJson,
     NotWhole,
@@ -31,7 +31,7 @@ pub(crate) struct Wrong {
     pub(crate) flaw: Flaw,
 }
 
-/// What is open: a list at an item, or an object at a key, with the keys so far.
+/// What is open: a list at an item, or an object at an entry.
 #[derive(Drop)]
 enum Level<'b> {
     List(u64),
@@ -43,27 +43,6 @@ enum Level<'b> {
 struct Entries<'b> {
     key: &'b [u8],
     keys: IndexSet<&'b [u8], NameHash>,
-}
-
-impl<'b> Level<'b> {
-    /// Goes to an entry of this key, and says whether the object had none of it.
-    fn add_key(&mut self, name: &'b [u8]) -> Result<bool, AllocError> {
-        match self {
-            Level::List(_) => Ok(true),
-            Level::Object(entries) => {
-                entries.key = name;
-                Ok(entries.keys.insert(name)?)
-            }
-        }
-    }
-
-    /// Goes to the next item of a list.
-    fn count_item(&mut self) {
-        match self {
-            Level::List(index) => *index = index.saturating_add(1),
-            Level::Object(_) => {}
-        }
-    }
 }
 
 /// What is wanted next.
@@ -104,24 +83,31 @@ impl<'b> Reader<'b> {
 
     /// Reads all.
     pub(crate) fn read(&mut self) -> Result<(), AllocError> {
-        if let Err(error) = from_utf8(self.bytes) {
-            return self.fail(error.valid_up_to(), "UTF-8 is wanted");
-        }
-        let mut wanted = Wanted::Value;
+        let mut next = match from_utf8(self.bytes) {
+            Ok(_) => Some(Wanted::Value),
+            Err(error) => self.stop_past(error.valid_up_to(), "UTF-8 is wanted")?,
+        };
         for _ in 0..=self.bytes.len() {
+            let Some(wanted) = next else {
+                return Ok(());
+            };
             self.skip_space();
-            match self.step(wanted)? {
-                Some(next) => wanted = next,
-                None => return Ok(()),
-            }
+            next = self.step(wanted)?;
         }
         Ok(())
     }
 
-    /// Notes what is wrong.
-    fn fail(&mut self, start: usize, text: &str) -> Result<(), AllocError> {
+    /// Ends the reading: this is not JSON.
+    fn stop<T>(&mut self, text: &str) -> Result<Option<T>, AllocError> {
         let text = String::from_str(self.alloc, text)?;
-        self.note(start, text, Flaw::NotJson)
+        self.note(self.at, text, Flaw::NotJson)?;
+        Ok(None)
+    }
+
+    /// Ends the reading after this many bytes more.
+    fn stop_past<T>(&mut self, count: usize, text: &str) -> Result<Option<T>, AllocError> {
+        self.pass(count);
+        self.stop(text)
     }
 
     /// Notes what is wrong, unless enough of its kind are reported.
@@ -173,12 +159,6 @@ impl<'b> Reader<'b> {
         }
     }
 
-    /// Ends the reading: this is not JSON.
-    fn stop(&mut self, text: &str) -> Result<Option<Wanted>, AllocError> {
-        self.fail(self.at, text)?;
-        Ok(None)
-    }
-
     /// Closes what was opened last.
     fn close(&mut self) -> Option<Wanted> {
         self.pass(1);
@@ -188,36 +168,23 @@ impl<'b> Reader<'b> {
 
     /// Reads what stands after a value.
     fn next(&mut self, byte: Option<u8>) -> Result<Option<Wanted>, AllocError> {
-        let is_list = match self.open.last() {
-            None => {
-                return match byte {
-                    None => Ok(None),
-                    Some(_) => self.stop("the end is wanted after the value"),
-                };
-            }
-            Some(Level::List(_)) => true,
-            Some(Level::Object(_)) => false,
-        };
-        match (byte, is_list) {
-            (Some(b','), true) => {
+        match (self.open.last_mut(), byte) {
+            (None, None) => Ok(None),
+            (None, Some(_)) => self.stop("the end is wanted after the value"),
+            (Some(Level::List(index)), Some(b',')) => {
+                *index = index.saturating_add(1);
                 self.pass(1);
-                self.count_item();
                 Ok(Some(Wanted::Value))
             }
-            (Some(b','), false) => {
+            (Some(Level::Object(_)), Some(b',')) => {
                 self.pass(1);
                 Ok(Some(Wanted::Key))
             }
-            (Some(b']'), true) | (Some(b'}'), false) => Ok(self.close()),
-            (_, true) => self.stop("\",\" or \"]\" is wanted after an item"),
-            (_, false) => self.stop("\",\" or \"}\" is wanted after an entry"),
-        }
-    }
-
-    /// Goes to the next item of a list.
-    fn count_item(&mut self) {
-        if let Some(level) = self.open.last_mut() {
-            level.count_item();
+            (Some(Level::List(_)), Some(b']')) | (Some(Level::Object(_)), Some(b'}')) => {
+                Ok(self.close())
+            }
+            (Some(Level::List(_)), _) => self.stop("\",\" or \"]\" is wanted after an item"),
+            (Some(Level::Object(_)), _) => self.stop("\",\" or \"}\" is wanted after an entry"),
         }
     }
 
@@ -229,10 +196,7 @@ impl<'b> Reader<'b> {
                 let keys = IndexSet::with_hasher(self.alloc, NameHash::fixed());
                 self.enter(Level::Object(Entries { key: &[], keys }), Wanted::KeyOrEnd)
             }
-            Some(b'"') => match self.string()? {
-                Some(_) => Ok(Some(Wanted::Next)),
-                None => Ok(None),
-            },
+            Some(b'"') => Ok(self.string()?.and(Some(Wanted::Next))),
             Some(b'-' | b'0'..=b'9') => self.number(),
             _ => self.word(),
         }
@@ -284,14 +248,13 @@ impl<'b> Reader<'b> {
         let Some(name) = self.string()? else {
             return Ok(None);
         };
-        let is_new = match self.open.last_mut() {
-            Some(level) => level.add_key(name)?,
-            None => true,
-        };
-        if !is_new {
-            let mut said = self.path()?;
-            said.push_str(": the key is given twice, and the last counts")?;
-            self.note(start, said, Flaw::SecondKey)?;
+        if let Some(Level::Object(entries)) = self.open.last_mut() {
+            entries.key = name;
+            if !entries.keys.insert(name)? {
+                let mut said = self.path()?;
+                said.push_str(": the key is given twice, and the last counts")?;
+                self.note(start, said, Flaw::SecondKey)?;
+            }
         }
         Ok(Some(Wanted::Colon))
     }
@@ -307,9 +270,10 @@ impl<'b> Reader<'b> {
                     *byte,
                     b'"' | b'\\' | b'/' | b'b' | b'f' | b'n' | b'r' | b't' | b'u'
                 ) {
-                    self.pass(index);
-                    self.stop("no such escape: after \"\\\" stands one of \"\\/bfnrtu")?;
-                    return Ok(None);
+                    return self.stop_past(
+                        index,
+                        "no such escape: after \"\\\" stands one of \"\\/bfnrtu",
+                    );
                 }
                 is_escaped = false;
             } else if *byte == b'\\' {
@@ -318,14 +282,13 @@ impl<'b> Reader<'b> {
                 self.pass(index.saturating_add(1));
                 return Ok(Some(rest.get(..index).unwrap_or(&[])));
             } else if *byte < 0x20 {
-                self.pass(index);
-                self.stop("a text has no newline, tab or other control byte: write \\n or \\t")?;
-                return Ok(None);
+                return self.stop_past(
+                    index,
+                    "a text has no newline, tab or other control byte: write \\n or \\t",
+                );
             }
         }
-        self.pass(rest.len());
-        self.stop("a text is not closed")?;
-        Ok(None)
+        self.stop_past(rest.len(), "a text is not closed")
     }
 
     /// Reads a number.
@@ -340,8 +303,7 @@ impl<'b> Reader<'b> {
             return self.stop("a value is wanted: if this is YAML, make JSON of it first");
         }
         if let Some(flaw) = number_flaw(text) {
-            self.pass(flaw);
-            return self.stop("this is no number of JSON");
+            return self.stop_past(flaw, "this is no number of JSON");
         }
         if !is_whole(text) {
             let mut said = self.path()?;

@@ -3,7 +3,7 @@ use Rattle.tmpl_lex.specs.Begin.{BeginsAt}
 use Rattle.tmpl_syntax.specs.Column.{IsPlace}
 use Rattle.tmpl_problems.specs.Survey.{warned_place}
 use Rattle.tmpl_problems.specs.Tokens.{unused_words}
-use Rattle.tmpl_problems.proofs.VariableLemmas.{adds-one}
+use Rattle.tmpl_problems.proofs.StepLemmas.{adds-one}
 use Rattle.tmpl_problems.proofs.survey.warn_if_unused.Goals as goal
 
 pub returns-in_ok-push-clause-placed : goal.returns-in_ok-push-clause-placed
