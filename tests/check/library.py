@@ -368,8 +368,9 @@ def judge_keys(folder):
 
 
 def findings_of(template, schema, words, form):
-    """The status and the text of `tmpl_check_schema` over a template t and a schema s, by words of the command."""
-    given = {"--missingkey": [], "--stop": [], "--name": []}
+    """The status and the text of `tmpl_check_schema` over a template t and a schema s, by words of the command, which takes names that begin
+    with "stop: " for stops without being asked."""
+    given = {"--missingkey": [], "--stop": re.findall(rb'\{\{template "(stop: [^"]*)"', template), "--name": []}
     for option, value in zip(words[::2], words[1::2]):
         given[option].append(value.encode())
     stops, name = given["--stop"], given["--name"][0] if given["--name"] else b""
