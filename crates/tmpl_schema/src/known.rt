@@ -5,7 +5,7 @@ ghost use Rattle.std.specs.Prelude.{◌≡◌, IfOk, OnOk, Some, length, ◌∷�
 ghost use Rattle.std.specs.Option.{option_map};
 ghost use Rattle.tmpl_grammar.specs.View.{binding_of};
 ghost use Rattle.tmpl_shape.specs.View.{shape_of};
-ghost use Rattle.tmpl_schema.specs.computed.Check.{after_both, after_parts, all_within, assigned_shape, bound_shapes, holds_loop, is_split, join_all, join_parts, join_to};
+ghost use Rattle.tmpl_schema.specs.computed.Check.{after_both, after_parts, all_within, assigned_shape, bound_shapes, holds_loop, join_all, join_parts, join_to};
 ghost use Rattle.tmpl_schema.specs.computed.Check.{last_of, leave_with, refine_all, refine_from, refine_variable, variable_origin, variable_shape};
 ghost use Rattle.tmpl_shape.specs.computed.Shapes.{join};
 ghost use Rattle.tmpl_shape.specs.computed.View.{base_of, shape_seen, test_seen};
@@ -361,17 +361,9 @@ pub(crate) fn join_all(base: &Base<'_>, known: &Known, others: &Known) -> Result
     }
 }
 
-/// Whether neither are among the other, but both among the third.
-fn is_split(base: &Base<'_>, before: &Rc<Shape>, one: &Rc<Shape>, other: &Rc<Shape>) -> bool
-    ensures { result ≡ is_split (base_of base.now) (shape_of before.now.value) (shape_of one.now.value)
-        (shape_of other.now.value) }
-{
-    !(within(base, one, other) || within(base, other, one))
-        && (within(base, one, before) && within(base, other, before))
-}
-
-/// The values of both; where they are parts of what was known before, that is taken, so that a test that tells two parts
-/// apart adds nothing.
+/// The values of both, without a new shape where the one are among the other. Where they are parts of what was known before,
+/// that is taken, so that a test that tells two parts apart adds nothing.
+#[tactic(auto, unfolding(tmpl_shape::specs::computed::Shapes::join))]
 fn join_to(
     base: &Base<'_>,
     before: &Rc<Shape>,
@@ -381,10 +373,18 @@ fn join_to(
     ensures { IfOk result (λ s. shape_of s.value ≡ join_to (base_of base.now) (shape_of before.now.value)
         (shape_of one.now.value) (shape_of other.now.value)) }
 {
-    if is_split(base, before, one, other) {
+    if within(base, one, other) {
+        return Rc::clone(other);
+    }
+    if within(base, other, one) {
+        return Rc::clone(one);
+    }
+    if within(base, one, before) && within(base, other, before) {
         return Rc::clone(before);
     }
-    join_shared(base, one, other)
+    let one = copy_counted(base, one)?;
+    let both = either(base.alloc, one, copy_counted(base, other)?)?;
+    Ok(Rc::new(base.alloc, both)?)
 }
 
 /// The same variables, each with the values of both, by what was known of them before.
@@ -401,13 +401,13 @@ fn join_parts(
     match (before, known, others) {
         (Known::Empty, Known::Empty, Known::Empty) => Ok(Known::Empty),
         (Known::More(was), Known::More(newest), Known::More(other)) => {
-            if newest.name.as_slice() != other.name.as_slice() {
+            let name = newest.name.as_slice();
+            if name != other.name.as_slice() {
                 return Err(Trouble::may_fail(base.alloc, Cause::Variables));
             }
             let shape = join_to(base, &was.shape, &newest.shape, &other.shape)?;
             let origin = join_origins(base.alloc, &newest.origin, &other.origin)?;
             let older = join_parts(base, &was.older, &newest.older, &other.older)?;
-            let name = newest.name.as_slice();
             Ok(put_variable(base.alloc, name, shape, origin, older)?)
         }
         _ => Err(Trouble::may_fail(base.alloc, Cause::Variables)),
