@@ -167,7 +167,14 @@ def drawn_parts(draw, depth):
     """Schemas together, or one beside a reference."""
     if draw.random() < 0.3:
         return {**drawn_object(draw, depth - 1), "$ref": "#/$defs/" + draw.choice(["n", "m~1o", "p%25q"])}
-    return {"allOf": [drawn_schema(draw, depth - 1) for _ in range(draw.randrange(1, 3))]}
+    parts = [drawn_part_of_all(draw, depth - 1) for _ in range(draw.randrange(1, 4))]
+    return {**(drawn_object(draw, depth - 1) if draw.random() < 0.3 else {}), "allOf": parts}
+
+
+def drawn_part_of_all(draw, depth):
+    """A schema of those that values have to conform to together."""
+    return draw.choice([drawn_schema(draw, depth), drawn_object(draw, depth), {"$ref": "#/$defs/" + draw.choice(["n", "m~1o", "p%25q"])},
+                        {"required": [draw.choice(FIELDS)]}, {"properties": {draw.choice(FIELDS): drawn_schema(draw, depth)}}])
 
 
 def narrowing(draw):
@@ -251,18 +258,32 @@ def drawn_value(draw, root, schema, depth):
         return draw.choice([None, True, 0, "", "x", [], {}])
     if schema is True or not schema:
         return draw.choice([None, True, False, 0, 7, "", "x", [], ["y"], {}, {"a": 1}])
+    if "$ref" in schema and len(schema) > 1 and year(root) >= 2019:
+        beside = {keyword: it for keyword, it in schema.items() if keyword not in ("$ref", "allOf")}
+        return drawn_together(draw, root, {**beside, "allOf": [{"$ref": schema["$ref"]}, *schema.get("allOf", [])]}, depth)
     if "$ref" in schema:
         return drawn_value(draw, root, pointed(root, schema["$ref"]), depth - 1)
     if "const" in schema:
         return schema["const"]
     if "enum" in schema:
         return draw.choice(schema["enum"])
-    for keyword in ("anyOf", "oneOf", "allOf"):
+    if "allOf" in schema:
+        return drawn_together(draw, root, schema, depth)
+    for keyword in ("anyOf", "oneOf"):
         if keyword in schema and "properties" not in schema:
             return drawn_value(draw, root, draw.choice(schema[keyword]), depth)
     types = schema.get("type", "object")
     name = types if isinstance(types, str) else draw.choice(types)
     return drawn_of_type(draw, root, schema, depth, name)
+
+
+def drawn_together(draw, root, schema, depth):
+    """A value of the parts of `allOf` and of what stands beside them: the members of one of each, or one of these."""
+    own = {keyword: it for keyword, it in schema.items() if keyword != "allOf"}
+    values = [drawn_value(draw, root, one, depth) for one in [*([own] if own else []), *schema["allOf"]]]
+    if all(isinstance(value, dict) for value in values):
+        return {key: member for value in reversed(values) for key, member in value.items()}
+    return draw.choice(values)
 
 
 def drawn_of_type(draw, root, schema, depth, name):

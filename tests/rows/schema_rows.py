@@ -48,6 +48,8 @@ DRAFT_2019 = {"$schema": "https://json-schema.org/draft/2019-09/schema"}
 TCP, UDP, UNIX = of({"kind": {"const": "tcp"}, "port": WHOLE}), of({"kind": {"const": "udp"}, "port": WHOLE}), of({"kind": {"const": "unix"}, "path": TEXT})
 NET, PIPE = of({"kind": {"enum": ["tcp", "udp"]}, "port": WHOLE}), of({"kind": {"enum": ["pipe", "fifo"]}, "name": TEXT})
 UNION = {"oneOf": [TCP, UNIX]}
+# what is told more of a map
+MORE = {"type": "object", "required": ["b"], "properties": {"b": TEXT}}
 MAYBES = of({"xs": {"type": "array", "items": of({"a": MAYBE})}, "m": MAYBE})
 
 # a title, a schema, a template, more words, and what is said of the template t: a line without its beginning
@@ -201,6 +203,23 @@ ACCEPTED = [
     ("allOf of one part", of({"a": {"allOf": [TEXT]}}), "{{len .a}}", []),
     ("the first part of allOf", {"allOf": [of({"a": TEXT}), {"required": ["b"]}]}, "{{len .a}}", []),
     ("allOf by a reference", of({"a": {"title": "t", "allOf": [{"$ref": "#/$defs/x"}]}}, **{"$defs": {"x": of({"b": TEXT})}}), "{{len .a.b}}", []),
+    ("the second part of allOf", of({"a": {"allOf": [{}, TEXT]}}), "{{len .a}}", []),
+    ("allOf beside properties", of({"a": {"properties": {}, "allOf": [TEXT]}}), "{{len .a}}", []),
+    ("a property in a part of allOf", {**of({"a": {}}), "allOf": [{"properties": {"a": TEXT}}]}, "{{len .a}}", []),
+    ("required in a part of allOf", {**of({"a": TEXT}, []), "allOf": [{"required": ["a"]}]}, "{{len .a}}", []),
+    ("null left out by a part of allOf", {**of({"a": {"type": ["string", "null"]}}), "allOf": [{"properties": {"a": TEXT}}]}, "{{len .a}}", []),
+    ("a string that a part of allOf names", of({"u": {"allOf": [UNION, {"properties": {"kind": {"const": "tcp"}}}]}}), "{{if eq .u.kind \"tcp\"}}{{.u.port}}{{end}}", []),
+    ("a definition and more", {"allOf": [{"$ref": "#/$defs/x"}, MORE], "$defs": {"x": {"type": "object", "required": ["a"], "properties": {"a": TEXT}}}}, "{{len .a}}{{len .b}}", []),
+    ("a definition of a definition and more", {"allOf": [{"$ref": "#/$defs/y"}, MORE], "$defs": {
+        "x": {"type": "object", "required": ["a"], "properties": {"a": TEXT}}, "y": {"allOf": [{"$ref": "#/$defs/x"}, {"required": ["c"], "properties": {"c": ITEMS}}]}}},
+     "{{len .a}}{{len .b}}{{range .c}}{{len .}}{{end}}", []),
+    ("alternatives beside parts", {"oneOf": [{"required": ["a"], "properties": {"a": TEXT}}, {"required": ["a"], "properties": {"a": ITEMS}}], "allOf": [MORE]}, "{{len .a}}{{len .b}}", []),
+    ("a list of parts", of({"a": {"allOf": [{"type": "array", "minItems": 2}, {"items": TEXT}]}}), "{{len (index .a 1)}}", []),
+    ("other properties of parts", {"allOf": [{"type": "object", "additionalProperties": TEXT}, {"additionalProperties": {"minLength": 1}}]}, "{{range .}}{{len .}}{{end}}", []),
+    ("a definition that has itself as a part", {"$ref": "#/$defs/x", "$defs": {"x": {"allOf": [of({"a": TEXT, "x": {"type": ["object", "null"], "allOf": [{"$ref": "#/$defs/x"}]}}), {}]}}},
+     "{{len .a}}{{with .x}}{{len .a}}{{with .x}}{{len .a}}{{end}}{{end}}", []),
+    ("properties beside a reference", {"$ref": "#/$defs/x", **MORE, "$defs": {"x": {"type": "object", "required": ["a"], "properties": {"a": TEXT}}}}, "{{len .a}}{{len .b}}", []),
+    ("required beside a reference", {"$ref": "#/$defs/x", "required": ["a"], "$defs": {"x": {"type": "object", "properties": {"a": TEXT}}}}, "{{len .a}}", []),
     ("type beside allOf", of({"a": {"type": "object", "allOf": [{"anyOf": [of({"b": TEXT}), TEXT]}]}}), "{{len .a.b}}", []),
     ("prefix items", of({"a": {"type": "array", "minItems": 1, "prefixItems": [TEXT], "items": WHOLE}}), "{{range .a}}{{print .}}{{end}}{{index .a 0}}", []),
     ("a list of items", of({"a": {"type": "array", "items": [TEXT], "additionalItems": False}}, **DRAFT_07), "{{range .a}}{{print .}}{{end}}", []),
@@ -419,9 +438,14 @@ REFUSED = [
     ("a pattern beside other properties", {"type": "object", "patternProperties": {"^a": WHOLE}, "additionalProperties": TEXT}, "{{range .}}{{len .}}{{end}}", [], LENGTH % 12),
     ("a pattern without other properties", {"type": "object", "patternProperties": {"^a": TEXT}}, "{{range .}}{{len .}}{{end}}", [], LENGTH % 12),
     ("required by a pattern of another kind", {"type": "object", "required": ["a"], "patternProperties": {"^a": WHOLE}, "additionalProperties": TEXT}, "{{len .a}}", [], LENGTH % 1),
-    ("the second part of allOf", of({"a": {"allOf": [{}, TEXT]}}), "{{len .a}}", [], LENGTH % 1),
-    ("allOf beside properties", of({"a": {"properties": {}, "allOf": [TEXT]}}), "{{len .a}}", [], LENGTH % 1),
-    ("a property in a part of allOf", {**of({"a": {}}), "allOf": [{"properties": {"a": TEXT}}]}, "{{len .a}}", [], LENGTH % 1),
+    ("a kind that no part tells of", of({"a": {"allOf": [{}, {"minLength": 1}]}}), "{{len .a}}", [], LENGTH % 1),
+    ("required in an alternative of a part", {**of({"a": TEXT}, []), "allOf": [{"anyOf": [{"required": ["a"]}, {"required": ["b"]}]}, {}]}, "{{.a}}", [],
+     '1:1: error: may fail: .a may be absent: not in "required" of s:1'),
+    ("parts of allOf four references deep", {"allOf": [{"$ref": "#/$defs/a"}, {}], "$defs": {
+        "a": {"allOf": [{"$ref": "#/$defs/b"}, {}]}, "b": {"allOf": [{"$ref": "#/$defs/c"}, {}]}, "c": {"allOf": [{"$ref": "#/$defs/d"}, {"type": "object"}]},
+        "d": of({"x": TEXT})}}, "{{.x}}", [], '1:1: error: may fail: .x may be absent: the schema does not require it'),
+    ("properties beside a reference of draft-07", {"$ref": "#/definitions/x", "required": ["a"], "definitions": {"x": {"type": "object", "properties": {"a": TEXT}}}, **DRAFT_07},
+     "{{.a}}", [], '1:1: error: may fail: .a may be absent: no "required" at s:1'),
     ("items after a prefix", of({"a": {"type": "array", "prefixItems": [WHOLE], "items": TEXT}}), "{{range .a}}{{len .}}{{end}}", [], LENGTH % 13),
     ("items of a list", of({"a": {"type": "array", "items": [TEXT]}}, **DRAFT_07), "{{range .a}}{{len .}}{{end}}", [], LENGTH % 13),
     ("a reference to elsewhere", of({"a": {"$ref": "other.json"}}), "{{len .a}}", [], LENGTH % 1),

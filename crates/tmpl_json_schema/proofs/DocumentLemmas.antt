@@ -16,21 +16,24 @@ use Rattle.tmpl_shape.specs.Shape.{Shape, never, anything, named, record_of, Nam
 use Rattle.tmpl_shape.specs.View.{defs_in, shape_of}
 use Rattle.tmpl_shape.specs.declared.shape.Definition.{Definition}
 use Rattle.tmpl_shape.specs.computed.Means.{Means}
+use Rattle.tmpl_shape.specs.computed.Meet.{meet, or_shape}
+use Rattle.tmpl_shape.proofs.MeetLemmas.{meet-has, or-one, or-other}
 use Rattle.tmpl_shape.proofs.NameLemmas.{meant}
 use Rattle.tmpl_shape.proofs.ShapeLemmas.{same_name, or_cases, items-has, entries-has}
-use Rattle.tmpl_json_schema.specs.Document.{IsInstance, IsOfType, IsConstant, IsOneOf, HasKeys, SomeItem, SomeMember, in_properties, FitsProperty, FitsProperties, FitsAdditional}
+use Rattle.tmpl_json_schema.specs.Document.{IsInstance, IsOfType, IsConstant, IsOneOf, HasKeys, SomeItem, EachItemOf, SomeMember, in_properties, FitsProperty, FitsProperties, FitsAdditional}
 use Rattle.tmpl_json_schema.specs.Document.{HasItems, FitsItems, FitsSome, FitsEach, FitsPattern, fragment_of, refer, ConformsBy, conforms_in, document_of, draft_of, draft_in, has_const, is_alone}
 use Rattle.tmpl_json_schema.specs.Document.{base_of, draft_alone, has_inner_base, is_since_2019, items_in}
 use Rattle.tmpl_json_schema.specs.declared.draft.Draft.{Draft}
 use Rattle.tmpl_json_schema.specs.declared.draft.Draft.TheVariants.{Draft2020}
 use Rattle.tmpl_json_schema.specs.declared.kinds.Kinds.{Kinds}
 use Rattle.tmpl_json_schema.specs.computed.Reading.{fold, fold_members, every_kind, both_kinds, types_in, const_in, enum_in, kinds_in, type_kinds, enum_kinds, constant_kind}
-use Rattle.tmpl_json_schema.specs.computed.Reading.{count_of, least_in, texts_in, is_every_kind, by_kinds, keep_kinds, rest_of, shape_of_rest, has_content, choices_in, or_else, is_listed, or_shape}
+use Rattle.tmpl_json_schema.specs.computed.Reading.{count_of, least_in, texts_in, is_every_kind, by_kinds, keep_kinds, rest_of, shape_of_rest, has_content, choices_in, or_else, is_listed}
 use Rattle.tmpl_json_schema.specs.computed.Reading.{choice_with, choice_shape, required_in, required_fields, properties_in, property_fields, with_property}
-use Rattle.tmpl_json_schema.specs.computed.Reading.{additional_in, beside_shape, first_of, if_listed, is_anything, items_shape, listed_in, part_in, with_pattern, with_patterns, whole_shape}
-use Rattle.tmpl_json_schema.specs.computed.Reading.{fields_in, content_shape, plain_shape, object_shape, is_unread, shape_by}
+use Rattle.tmpl_json_schema.specs.computed.Reading.{additional_in, beside_shape, if_listed, is_anything, items_shape, joint_shape, kinds_shape, listed_in, with_pattern, with_patterns}
+use Rattle.tmpl_json_schema.specs.computed.Reading.{fields_in, content_shape, has_start, part_with, parts_shape, plain_shape, object_shape, is_unread, referred, shape_by, start_shape, tells_more}
+use Rattle.tmpl_json_schema.specs.computed.Reading.{Context, looked_up, with_parts}
 use Rattle.tmpl_json_schema.specs.computed.Defined.{AreLookedUp, IsDefinition, are_defined}
-use Rattle.tmpl_json_schema.proofs.KindLemmas.{HasKind, HasParts, is-some, not-some, both-kinds, type_kinds-has, constant_kind-has, enum_kinds-has, or-one, or-other, texts-has, by_kinds-has, kept-has}
+use Rattle.tmpl_json_schema.proofs.KindLemmas.{HasKind, HasParts, is-some, not-some, both-kinds, type_kinds-has, constant_kind-has, enum_kinds-has, texts-has, by_kinds-has, kept-has}
 use Rattle.tmpl_json_schema.proofs.FieldLemmas.{rest-field, rest-shape, rest-required, required-fields, required-has, properties-fields, properties-has}
 
 -- ---- kinds
@@ -300,50 +303,19 @@ module _ (N : Names) (read : Data → Option Shape) (C : Data → Value → Type
         by false None (Some d) x y f = is-some (FitsSome C v) d c f y
         by false (Some d) p x y f = is-some (FitsSome C v) d c f x
 
-    parted : (d : Data) → part_in whole ≡ Some d → C d v
-    parted d e = by (has_content whole) (get (codes "allOf") whole) h.11 e
-      where
-        first : (l : Data) → FitsEach C v l → first_of l ≡ Some d → C d v
-        first (json.array (json.item x ds)) k f = is-some (λ y. C y v) x d f k.0
-        first (json.array no_items) k f = absurd (not-some d f)
-        first l k f = absurd (not-some d f)
-
-        by : (b : Bool) (o : Option Data) → IfSome o (FitsEach C v) → (if b then None else option_and_then first_of o) ≡ Some d → C d v
-        by true o k f = absurd (not-some d f)
-        by false None k f = absurd (not-some d f)
-        by false (Some l) k f = first l k f
-
-    whole-has : (ks : Kinds) (s : Shape) → whole_shape read whole ks ≡ Some s → HasKind ks v → HasShape N s v
-    whole-has ks s e k = by (part_in whole) refl e
-      where
-        pick : (p : Data) → part_in whole ≡ Some p → (o : Option Shape) → read p ≡ o → option_map (keep_kinds ks) o ≡ Some s → HasShape N s v
-        pick p is None x f = absurd (not-some s f)
-        pick p is (Some t) x f = is-some (λ u. HasShape N u v) (keep_kinds ks t) s f (kept-has N ks t v k (ok p t v x (parted p is)))
-
-        by : (o : Option Data) → part_in whole ≡ o → option_map_or (λ p. option_map (keep_kinds ks) (read p)) o (content_shape read whole ks) ≡ Some s → HasShape N s v
-        by None is f = content-has ks s f k
-        by (Some p) is f = pick p is (read p) refl f
-
-    plain-has : (ks : Kinds) (s : Shape) → plain_shape read whole ks ≡ Some s → HasKind ks v → HasShape N s v
-    plain-has ks s e k = by (choices_in whole) refl e
+    start-has : (ks : Kinds) (s : Shape) → start_shape read whole ks ≡ Some s → HasKind ks v → HasShape N s v
+    start-has ks s e k = by (choices_in whole) refl e
       where
         pick : (c : Data) → choices_in whole ≡ Some c → (o : Option Shape) → choice_shape read c ≡ o → option_map (keep_kinds ks) o ≡ Some s → HasShape N s v
         pick c is None x f = absurd (not-some s f)
         pick c is (Some t) x f = is-some (λ u. HasShape N u v) (keep_kinds ks t) s f (kept-has N ks t v k (choice-has c t v x (chosen c is)))
 
-        by : (o : Option Data) → choices_in whole ≡ o → option_map_or (λ c. option_map (keep_kinds ks) (choice_shape read c)) o (whole_shape read whole ks) ≡ Some s → HasShape N s v
-        by None is f = whole-has ks s f k
+        by : (o : Option Data) → choices_in whole ≡ o → option_map_or (λ c. option_map (keep_kinds ks) (choice_shape read c)) o (content_shape read whole ks) ≡ Some s → HasShape N s v
+        by None is f = content-has ks s f k
         by (Some c) is f = pick c is (choice_shape read c) refl f
 
     all-kinds : (ks : Kinds) → kinds_in whole ≡ Some ks → HasKind ks v
     all-kinds ks e = kinds-has whole ks v e h.0 h.1 h.2 h.3
-
-    kinds-plain : (s : Shape) → option_and_then (plain_shape read whole) (kinds_in whole) ≡ Some s → HasShape N s v
-    kinds-plain s e = by (kinds_in whole) refl e
-      where
-        by : (o : Option Kinds) → kinds_in whole ≡ o → option_and_then (plain_shape read whole) o ≡ Some s → HasShape N s v
-        by None is f = absurd (not-some s f)
-        by (Some ks) is f = plain-has ks s f (all-kinds ks is)
 
   -- a `$ref` that is not there is not alone, and a `const` that the draft does not have is not there
   const-read : (o : Option Data) (b : Bool) (v : Value) → (is_some o && not b) ≡ false → (b ≡ true → IfSome o (IsConstant v)) → IfSome o (IsConstant v)
@@ -358,90 +330,190 @@ module _ (N : Names) (read : Data → Option Shape) (C : Data → Value → Type
       let const = const-read (get (codes "const") (json.object ms)) (has_const draft) v unread (λ e. all.1 (ap (λ o. option_map_or has_const o true) is ∙ e)) in
       (h.0, all.0, const, all.2, all.3, all.4, all.5, all.6, all.7, all.8, all.9, all.10)
 
-  -- beside a `$ref` that is not looked up
-  beside-has : (root : Data) (draft : Draft) (ms : Members) (v : Value) → draft_of root ≡ Some draft → is_unread draft (json.object ms) ≡ false
-      → ConformsBy root C (json.object ms) v → (s : Shape) → beside_shape read draft (json.object ms) (get (codes "$ref") (json.object ms)) ≡ Some s → HasShape N s v
-  beside-has root draft ms v is unread h s e = by (is_some (get (codes "$ref") (json.object ms)) && not (is_since_2019 draft)) refl e
-    where
-      by : (c : Bool) → (is_some (get (codes "$ref") (json.object ms)) && not (is_since_2019 draft)) ≡ c
-          → (if c then Some anything else option_and_then (plain_shape read (json.object ms)) (kinds_in (json.object ms))) ≡ Some s → HasShape N s v
-      by true x f = is-some (λ t. HasShape N t v) anything s f tt
-      by false x f =
-          let alone : is_alone root (get (codes "$ref") (json.object ms)) ≡ false =
-          ap (λ o. is_some (get (codes "$ref") (json.object ms)) && not (option_map_or is_since_2019 o true)) is ∙ x in
-          kinds-plain ms v (plainly root draft ms v is alone unread h) s f
+  -- ---- parts
 
-  object-has : (root : Data) (draft : Draft) (names : List (List ℕ)) (ms : Members) (v : Value) → draft_of root ≡ Some draft
-      → ((r : Data) (p : List ℕ) → listed_in names r ≡ Some p → IfSome (refer root r) (λ d. C d v) → N p v)
-      → (s : Shape) → object_shape read draft names (json.object ms) ≡ Some s → ConformsBy root C (json.object ms) v → HasShape N s v
-  object-has root draft names ms v is refers s e h = by (is_unread draft (json.object ms)) refl e
-    where
-      named-has : (o : Option Data) → IfSome o (λ r. IfSome (refer root r) (λ d. C d v)) → (p : List ℕ) → option_and_then (listed_in names) o ≡ Some p → N p v
-      named-has None r p f = absurd (not-some p f)
-      named-has (Some d) r p f = refers d p f r
+  module _ (c : Context) (part : Data → Option Shape) (look : List ℕ → Option Shape)
+      (part-ok : (d : Data) (s : Shape) (v : Value) → part d ≡ Some s → C d v → HasShape N s v) where
+    each-part-has : (ds : Items) (a s : Shape) (v : Value) → fold (part_with c read part look) a ds ≡ Some s → HasShape N a v → EachItemOf (λ d. C d v) ds
+        → HasShape N s v
+    each-part-has no_items a s v e h k = is-some (λ t. HasShape N t v) a s e h
+    each-part-has (json.item d ds) a s v e h k = by (part d) refl e (λ b f x. each-part-has ds b s v f x k.1)
+      where
+        by : (o : Option Shape) → part d ≡ o → option_and_then (λ b. fold (part_with c read part look) b ds) (option_map (meet c.levels a) o) ≡ Some s
+            → ((b : Shape) → fold (part_with c read part look) b ds ≡ Some s → HasShape N b v → HasShape N s v) → HasShape N s v
+        by None is f more = absurd (not-some s f)
+        by (Some t) is f more = more (meet c.levels a t) f (meet-has N c.levels a t v h (part-ok d t v is k.0))
 
-      pick : is_unread draft (json.object ms) ≡ false → (o : Option (List ℕ)) → option_and_then (listed_in names) (get (codes "$ref") (json.object ms)) ≡ o
-          → option_map_or (λ p. Some (named p)) o (beside_shape read draft (json.object ms) (get (codes "$ref") (json.object ms))) ≡ Some s → HasShape N s v
-      pick u None x f = beside-has root draft ms v is u h s f
-      pick u (Some p) x f = is-some (λ t. HasShape N t v) (named p) s f (named-has (get (codes "$ref") (json.object ms)) h.1 p x)
+    parts-has : (l : Data) (a s : Shape) (v : Value) → parts_shape c read part look a l ≡ Some s → HasShape N a v → FitsEach C v l → HasShape N s v
+    parts-has (json.array ds) a s v e h k = each-part-has ds a s v e h k
+    parts-has l a s v e h k = is-some (λ t. HasShape N t v) a s e h
 
-      by : (c : Bool) → is_unread draft (json.object ms) ≡ c
-          → (if c then None else option_map_or (λ p. Some (named p)) (option_and_then (listed_in names) (get (codes "$ref") (json.object ms)))
-          (beside_shape read draft (json.object ms) (get (codes "$ref") (json.object ms)))) ≡ Some s → HasShape N s v
-      by true u f = absurd (not-some s f)
-      by false u f = pick u (option_and_then (listed_in names) (get (codes "$ref") (json.object ms))) refl f
+    joint-has : (l : Data) (s : Shape) (v : Value) → joint_shape c read part look l ≡ Some s → FitsEach C v l → HasShape N s v
+    joint-has (json.array (json.item d no_items)) s v e k = ok d s v e k.0
+    joint-has l s v e k = parts-has l anything s v e tt k
+
+    module _ (ms : Members) (v : Value) (h : ConformsPlainly ms v) where
+      abbrev entire : Data
+      entire = json.object ms
+
+      with-parts-has : (ks : Kinds) (l : Data) (s : Shape) → FitsEach C v l → with_parts c read part look entire ks l ≡ Some s → HasKind ks v → HasShape N s v
+      with-parts-has ks l s each e k = by (has_start entire) (start_shape read entire ks) refl (joint_shape c read part look l) refl e
+        where
+          by : (b : Bool) (o : Option Shape) → start_shape read entire ks ≡ o → (p : Option Shape) → joint_shape c read part look l ≡ p
+              → (if b then option_and_then (λ a. parts_shape c read part look a l) o else option_map (keep_kinds ks) p) ≡ Some s → HasShape N s v
+          by true None x p y f = absurd (not-some s f)
+          by true (Some a) x p y f = parts-has l a s v f (start-has ms v h ks a x k) each
+          by false o x None y f = absurd (not-some s f)
+          by false o x (Some t) y f = is-some (λ u. HasShape N u v) (keep_kinds ks t) s f (kept-has N ks t v k (joint-has l t v y each))
+
+      plain-has : (ks : Kinds) (s : Shape) → plain_shape c read part look entire ks ≡ Some s → HasKind ks v → HasShape N s v
+      plain-has ks s e k = by (get (codes "allOf") entire) h.11 e
+        where
+          by : (o : Option Data) → IfSome o (FitsEach C v) → option_map_or (with_parts c read part look entire ks) o (start_shape read entire ks) ≡ Some s → HasShape N s v
+          by None each f = start-has ms v h ks s f k
+          by (Some l) each f = with-parts-has ks l s each f k
+
+      kinds-shape-has : (s : Shape) → kinds_shape c read part look entire ≡ Some s → HasShape N s v
+      kinds-shape-has s e = by (kinds_in entire) refl e
+        where
+          by : (o : Option Kinds) → kinds_in entire ≡ o → option_and_then (plain_shape c read part look entire) o ≡ Some s → HasShape N s v
+          by None is f = absurd (not-some s f)
+          by (Some ks) is f = plain-has ks s f (all-kinds ms v h ks is)
+
+    -- ---- an object
+
+    module _ (root : Data) (ms : Members) (v : Value) (is : draft_of root ≡ Some c.draft) (unread : is_unread c.draft (json.object ms) ≡ false)
+        (h : ConformsBy root C (json.object ms) v) where
+      abbrev entirety : Data
+      entirety = json.object ms
+
+      abbrev reference : Option Data
+      reference = get (codes "$ref") entirety
+
+      -- .. where what stands beside a `$ref` counts
+      beside-kinds : (is_some reference && not (is_since_2019 c.draft)) ≡ false → (s : Shape) → kinds_shape c read part look entirety ≡ Some s → HasShape N s v
+      beside-kinds x s e =
+          let alone : is_alone root reference ≡ false = ap (λ o. is_some reference && not (option_map_or is_since_2019 o true)) is ∙ x in
+          kinds-shape-has ms v (plainly root c.draft ms v is alone unread h) s e
+
+      beside-has : (s : Shape) → beside_shape c read part look entirety reference ≡ Some s → HasShape N s v
+      beside-has s e = by (is_some reference && not (is_since_2019 c.draft)) refl e
+        where
+          by : (b : Bool) → (is_some reference && not (is_since_2019 c.draft)) ≡ b → (if b then Some anything else kinds_shape c read part look entirety) ≡ Some s → HasShape N s v
+          by true x f = is-some (λ t. HasShape N t v) anything s f tt
+          by false x f = beside-kinds x s f
+
+      referred-has : (b : Bool) (p : List ℕ) (s : Shape) → N p v → ((t : Shape) → look p ≡ Some t → HasShape N t v) → referred c read part look b entirety p ≡ Some s → HasShape N s v
+      referred-has b p s named-has look-has e = by (is_since_2019 c.draft) refl (tells_more entirety) b e
+        where
+          both : is_since_2019 c.draft ≡ true → (o : Option Shape) → look p ≡ o → (q : Option Shape) → kinds_shape c read part look entirety ≡ q
+              → option_and_then (λ a. option_map (meet c.levels a) q) o ≡ Some s → HasShape N s v
+          both x None y q z f = absurd (not-some s f)
+          both x (Some a) y None z f = absurd (not-some s f)
+          both x (Some a) y (Some t) z f = is-some (λ u. HasShape N u v) (meet c.levels a t) s f
+              (meet-has N c.levels a t v (look-has a y) (beside-kinds (since-counts (is_some reference) (is_since_2019 c.draft) x) t z))
+            where
+              since-counts : (i w : Bool) → w ≡ true → (i && not w) ≡ false
+              since-counts true true e = refl
+              since-counts false w e = refl
+              since-counts true false e = absurd (false≢true e)
+
+          by : (w : Bool) → is_since_2019 c.draft ≡ w → (m : Bool) (b : Bool)
+              → (if w && m then option_and_then (λ a. option_map (meet c.levels a) (kinds_shape c read part look entirety)) (look p) else if b then look p else Some (named p)) ≡ Some s → HasShape N s v
+          by true x true b f = both x (look p) refl (kinds_shape c read part look entirety) refl f
+          by true x false true f = look-has s f
+          by true x false false f = is-some (λ t. HasShape N t v) (named p) s f named-has
+          by false x m true f = look-has s f
+          by false x m false f = is-some (λ t. HasShape N t v) (named p) s f named-has
+
+    object-has : (root : Data) (ms : Members) (v : Value) (b : Bool) → draft_of root ≡ Some c.draft
+        → ((r : Data) (p : List ℕ) → listed_in c.names r ≡ Some p → IfSome (refer root r) (λ d. C d v) → N p v × ((t : Shape) → look p ≡ Some t → HasShape N t v))
+        → (s : Shape) → object_shape c read part look b (json.object ms) ≡ Some s → ConformsBy root C (json.object ms) v → HasShape N s v
+    object-has root ms v b is refers s e h = by (is_unread c.draft (json.object ms)) refl e
+      where
+        named-has : (o : Option Data) → IfSome o (λ r. IfSome (refer root r) (λ d. C d v)) → (p : List ℕ) → option_and_then (listed_in c.names) o ≡ Some p
+            → N p v × ((t : Shape) → look p ≡ Some t → HasShape N t v)
+        named-has None r p f = absurd (not-some p f)
+        named-has (Some d) r p f = refers d p f r
+
+        pick : is_unread c.draft (json.object ms) ≡ false → (o : Option (List ℕ)) → option_and_then (listed_in c.names) (get (codes "$ref") (json.object ms)) ≡ o
+            → option_map_or (referred c read part look b (json.object ms)) o (beside_shape c read part look (json.object ms) (get (codes "$ref") (json.object ms))) ≡ Some s → HasShape N s v
+        pick u None x f = beside-has root ms v is u h s f
+        pick u (Some p) x f = let k = named-has (get (codes "$ref") (json.object ms)) h.1 p x in referred-has root ms v is u h b p s k.0 k.1 f
+
+        by : (d : Bool) → is_unread c.draft (json.object ms) ≡ d
+            → (if d then None else option_map_or (referred c read part look b (json.object ms)) (option_and_then (listed_in c.names) (get (codes "$ref") (json.object ms)))
+            (beside_shape c read part look (json.object ms) (get (codes "$ref") (json.object ms)))) ≡ Some s → HasShape N s v
+        by true u f = absurd (not-some s f)
+        by false u f = pick u (option_and_then (listed_in c.names) (get (codes "$ref") (json.object ms))) refl f
 
 -- ---- a document
 
 -- each of the names stands for what is read at its pointer
-abbrev pub EachDefined : Draft → Data → List (List ℕ) → ℕ → Defs → Type 0
-EachDefined draft root names l defs = (p : List ℕ) → is_listed names p ≡ true
-    → (d : Data) × (s : Shape) × (pointer p root ≡ Some d) × (defs p ≡ Some s) × (shape_by draft names l d ≡ Some s)
+abbrev pub EachDefined : Context → Data → ℕ → Defs → Type 0
+EachDefined c root k defs = (p : List ℕ) → is_listed c.names p ≡ true
+    → (d : Data) × (s : Shape) × (pointer p root ≡ Some d) × (pointer p c.root ≡ Some d) × (defs p ≡ Some s) × (shape_by c c.levels k false d ≡ Some s)
 
-module _ (draft : Draft) (root : Data) (is-of : draft_of root ≡ Some draft) (names : List (List ℕ)) (l : ℕ) (defs : Defs) (defined : EachDefined draft root names l defs) (N : Names) (means : Means defs N) where
-  module _ (C : Data → Value → Type 0) (ok : (d : Data) (s : Shape) (v : Value) → shape_by draft names l d ≡ Some s → C d v → HasShape N s v) where
-    refers-has : (v : Value) (r : Data) (p : List ℕ) → listed_in names r ≡ Some p → IfSome (refer root r) (λ d. C d v) → N p v
-    refers-has v (json.string t) q e h = by (fragment_of t) e h
-      where
-        found : (p : List ℕ) → is_listed names p ≡ true → IfSome (pointer p root) (λ d. C d v) → N p v
-        found p is k =
-            let at = defined p is in
-            means.folds p at.1 v at.3 (ok at.0 at.1 v at.4 (subst (λ (o : Option Data). IfSome o (λ d. C d v)) at.2 k))
+-- a value of which there is a `$ref` is one of what that points to
+refers-to : (names : List (List ℕ)) (root : Data) (P : Data → Type 0) (r : Data) (q : List ℕ) → listed_in names r ≡ Some q → IfSome (refer root r) P
+    → (is_listed names q ≡ true) × IfSome (pointer q root) P
+refers-to names root P (json.string t) q e h = by (fragment_of t) e h
+  where
+    at : (p : List ℕ) → IfSome (pointer p root) P → (b : Bool) → is_listed names p ≡ b → (if b then Some p else None) ≡ Some q → (is_listed names q ≡ true) × IfSome (pointer q root) P
+    at p k true is f = is-some (λ x. (is_listed names x ≡ true) × IfSome (pointer x root) P) p q f (is, k)
+    at p k false is f = absurd (not-some q f)
 
-        at : (p : List ℕ) → IfSome (pointer p root) (λ d. C d v) → (c : Bool) → is_listed names p ≡ c → (if c then Some p else None) ≡ Some q → N q v
-        at p k true is f = is-some (λ x. N x v) p q f (found p is k)
-        at p k false is f = absurd (not-some q f)
+    by : (o : Option (List ℕ)) → option_and_then (if_listed names) o ≡ Some q → IfSome (option_and_then (λ p. pointer p root) o) P → (is_listed names q ≡ true) × IfSome (pointer q root) P
+    by None f k = absurd (not-some q f)
+    by (Some p) f k = at p k (is_listed names p) refl f
+refers-to names root P r q e h = absurd (not-some q e)
 
-        by : (o : Option (List ℕ)) → option_and_then (if_listed names) o ≡ Some q → IfSome (option_and_then (λ p. pointer p root) o) (λ d. C d v) → N q v
-        by None f k = absurd (not-some q f)
-        by (Some p) f k = at p k (is_listed names p) refl f
-    refers-has v r q e h = absurd (not-some q e)
-
-  sound : (n m : ℕ) (d : Data) (s : Shape) (v : Value) → shape_by draft names m d ≡ Some s → conforms_in root n d v → HasShape N s v
-  sound zero m d s v e h = absurd h
-  sound (suc n) zero d s v e h = absurd (not-some s e)
-  sound (suc n) (suc m) (json.boolean b) s v e h = by b h e
+module _ (c : Context) (root : Data) (is-of : draft_of root ≡ Some c.draft) (l : ℕ) (defs : Defs) (defined : EachDefined c root l defs) (N : Names) (means : Means defs N) where
+  -- what a `$ref` stands for, by its definition and where it is looked up
+  refers-has : (C : Data → Value → Type 0) → ((d : Data) (s : Shape) (v : Value) → shape_by c c.levels l false d ≡ Some s → C d v → HasShape N s v)
+      → (read : ℕ → Data → Option Shape) → ((j : ℕ) (d : Data) (s : Shape) (v : Value) → read j d ≡ Some s → C d v → HasShape N s v) → (k : ℕ) (v : Value) (r : Data) (p : List ℕ)
+      → listed_in c.names r ≡ Some p → IfSome (refer root r) (λ d. C d v) → N p v × ((t : Shape) → looked_up c read k p ≡ Some t → HasShape N t v)
+  refers-has C ok read read-ok k v r p e h = (stands, by k)
     where
-      by : (c : Bool) → c ≡ true → Some (if c then anything else never) ≡ Some s → HasShape N s v
+      at : (d : Data) × (s : Shape) × (pointer p root ≡ Some d) × (pointer p c.root ≡ Some d) × (defs p ≡ Some s) × (shape_by c c.levels l false d ≡ Some s)
+      at = defined p (refers-to c.names root (λ d. C d v) r p e h).0
+
+      conforms : C at.0 v
+      conforms = subst (λ (o : Option Data). IfSome o (λ d. C d v)) at.2 (refers-to c.names root (λ d. C d v) r p e h).1
+
+      stands : N p v
+      stands = means.folds p at.1 v at.4 (ok at.0 at.1 v at.5 conforms)
+
+      by : (k : ℕ) (t : Shape) → looked_up c read k p ≡ Some t → HasShape N t v
+      by zero t f = is-some (λ s. HasShape N s v) (named p) t f stands
+      by (suc j) t f = read-ok j at.0 t v (sym (ap (option_and_then (read j)) at.3) ∙ f) conforms
+
+  sound : (n m k : ℕ) (b : Bool) (d : Data) (s : Shape) (v : Value) → shape_by c m k b d ≡ Some s → conforms_in root n d v → HasShape N s v
+  sound zero m k b d s v e h = absurd h
+  sound (suc n) zero k b d s v e h = absurd (not-some s e)
+  sound (suc n) (suc m) k b (json.boolean a) s v e h = by a h e
+    where
+      by : (i : Bool) → i ≡ true → Some (if i then anything else never) ≡ Some s → HasShape N s v
       by true x f = is-some (λ t. HasShape N t v) anything s f tt
       by false x f = absurd (false≢true x)
-  sound (suc n) (suc m) (json.object ms) s v e h =
-      object-has N (shape_by draft names m) (conforms_in root n) (sound n m) root draft names ms v is-of (refers-has (conforms_in root n) (sound n l) v) s e h
-  sound (suc n) (suc m) d s v e h = absurd (not-some s e)
+  sound (suc n) (suc m) k b (json.object ms) s v e h =
+      object-has N (shape_by c m k false) (conforms_in root n) (sound n m k false) c (shape_by c m k true) (looked_up c (λ j. shape_by c m j true) k) (sound n m k true) root ms v b is-of
+      (refers-has (conforms_in root n) (sound n c.levels l false) (λ j. shape_by c m j true) (λ j. sound n m j true) k v) s e h
+  sound (suc n) (suc m) k b d s v e h = absurd (not-some s e)
 
 -- ---- the definitions
 
-find-definition : (draft : Draft) (root : Data) (names : List (List ℕ)) (l : ℕ) (ds : List Definition) → All (IsDefinition draft root names l) ds → (p : List ℕ) → IsSome (defs_in ds p)
-    → (d : Data) × (s : Shape) × (pointer p root ≡ Some d) × (defs_in ds p ≡ Some s) × (shape_by draft names l d ≡ Some s)
-find-definition draft root names l [] all p is = absurd (false≢true is)
-find-definition draft root names l (x ∷ ds) all p is = by (bytes_eq p x.name) refl is (find-definition draft root names l ds (All-tail (IsDefinition draft root names l) x ds all) p)
+find-definition : (c : Context) (k : ℕ) (ds : List Definition) → All (IsDefinition c k) ds → (p : List ℕ) → IsSome (defs_in ds p)
+    → (d : Data) × (s : Shape) × (pointer p c.root ≡ Some d) × (defs_in ds p ≡ Some s) × (shape_by c c.levels k false d ≡ Some s)
+find-definition c k [] all p is = absurd (false≢true is)
+find-definition c k (x ∷ ds) all p is = by (bytes_eq p x.name) refl is (find-definition c k ds (All-tail (IsDefinition c k) x ds all) p)
   where
-    by : (c : Bool) → bytes_eq p x.name ≡ c → IsSome (if c then Some (shape_of x.shape) else defs_in ds p)
-        → (IsSome (defs_in ds p) → (d : Data) × (s : Shape) × (pointer p root ≡ Some d) × (defs_in ds p ≡ Some s) × (shape_by draft names l d ≡ Some s))
-        → (d : Data) × (s : Shape) × (pointer p root ≡ Some d) × ((if c then Some (shape_of x.shape) else defs_in ds p) ≡ Some s) × (shape_by draft names l d ≡ Some s)
+    by : (b : Bool) → bytes_eq p x.name ≡ b → IsSome (if b then Some (shape_of x.shape) else defs_in ds p)
+        → (IsSome (defs_in ds p) → (d : Data) × (s : Shape) × (pointer p c.root ≡ Some d) × (defs_in ds p ≡ Some s) × (shape_by c c.levels k false d ≡ Some s))
+        → (d : Data) × (s : Shape) × (pointer p c.root ≡ Some d) × ((if b then Some (shape_of x.shape) else defs_in ds p) ≡ Some s) × (shape_by c c.levels k false d ≡ Some s)
     by true e i more =
-        let at = All-head (IsDefinition draft root names l) x ds all in
-        (at.0, shape_of x.shape, subst (λ (k : List ℕ). pointer k root ≡ Some at.0) (sym (same_name p x.name e)) at.1, refl, at.2)
+        let at = All-head (IsDefinition c k) x ds all in
+        (at.0, shape_of x.shape, subst (λ (q : List ℕ). pointer q c.root ≡ Some at.0) (sym (same_name p x.name e)) at.1, refl, at.2)
     by false e i more = more i
 
 listed-defined : (defs : Defs) (names : List (List ℕ)) (p : List ℕ) → are_defined defs names ≡ true → is_listed names p ≡ true → IsSome (defs p)
@@ -469,18 +541,19 @@ base-draft root = by (has_inner_base root)
     by false = refl
 
 -- what is looked up is
-base-defined : (draft : Draft) (root : Data) (names : List (List ℕ)) (l : ℕ) (defs : Defs) → AreLookedUp root names → EachDefined draft root names l defs
-    → EachDefined draft (base_of root) names l defs
-base-defined draft root names l defs (inl same) each = subst (λ r. EachDefined draft r names l defs) (sym same) each
-base-defined draft root names l defs (inr none) each = λ p i. absurd (false≢true (ap (λ ns. is_listed ns p) (sym none) ∙ i))
+base-defined : (c : Context) (k : ℕ) (defs : Defs) → AreLookedUp c.root c.names
+    → ((p : List ℕ) → is_listed c.names p ≡ true → (d : Data) × (s : Shape) × (pointer p c.root ≡ Some d) × (defs p ≡ Some s) × (shape_by c c.levels k false d ≡ Some s))
+    → EachDefined c (base_of c.root) k defs
+base-defined c k defs (inl same) each = λ p i. let at = each p i in (at.0, at.1, subst (λ r. pointer p r ≡ Some at.0) (sym same) at.2, at.2, at.3, at.4)
+base-defined c k defs (inr none) each = λ p i. absurd (false≢true (ap (λ ns. is_listed ns p) (sym none) ∙ i))
 
-pub document-fits : (draft : Draft) (root : Data) → draft_of root ≡ Some draft → (names : List (List ℕ)) (l : ℕ) (ds : List Definition) (s : Shape) → AreLookedUp root names
-    → All (IsDefinition draft root names l) ds → are_defined (defs_in ds) names ≡ true → shape_by draft names l root ≡ Some s → (n : ℕ) (v : Value)
-    → conforms_in (base_of root) n root v → HasShape (stands_for (defs_in ds)) s v
-document-fits draft root is-of names l ds s looked all e is n v h =
-    sound draft (base_of root) (base-draft root ∙ is-of) names l (defs_in ds)
-    (base-defined draft root names l (defs_in ds) looked (λ p i. find-definition draft root names l ds all p (listed-defined (defs_in ds) names p e i)))
-    (stands_for (defs_in ds)) (meant (defs_in ds)) n l root s v is h
+pub document-fits : (c : Context) → draft_of c.root ≡ Some c.draft → (k : ℕ) (ds : List Definition) (s : Shape) → AreLookedUp c.root c.names
+    → All (IsDefinition c k) ds → are_defined (defs_in ds) c.names ≡ true → shape_by c c.levels k false c.root ≡ Some s → (n : ℕ) (v : Value)
+    → conforms_in (base_of c.root) n c.root v → HasShape (stands_for (defs_in ds)) s v
+document-fits c is-of k ds s looked all e is n v h =
+    sound c (base_of c.root) (base-draft c.root ∙ is-of) k (defs_in ds)
+    (base-defined c k (defs_in ds) looked (λ p i. find-definition c k ds all p (listed-defined (defs_in ds) c.names p e i)))
+    (stands_for (defs_in ds)) (meant (defs_in ds)) n c.levels k false c.root s v is h
 
 -- ---- the document that bytes are
 

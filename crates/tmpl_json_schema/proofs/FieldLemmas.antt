@@ -9,11 +9,13 @@ use Rattle.serde_json.specs.Find.{get}
 use Rattle.tmpl_values.specs.Value.{Value, Entries, mapping}
 use Rattle.tmpl_values.specs.Field.{entry_at}
 use Rattle.tmpl_shape.specs.Shape.{Shape, Names, Fields, no_field, others, field, HasRequired, HasShape, IsField}
+use Rattle.tmpl_shape.specs.computed.Shapes.{is_never}
+use Rattle.tmpl_shape.proofs.MeetLemmas.{never-has}
 use Rattle.tmpl_shape.proofs.ShapeLemmas.{or_cases, same_name}
 use Rattle.tmpl_json_schema.specs.Document.{EachKey, HasKeys, is_property, FitsProperty}
-use Rattle.tmpl_json_schema.specs.computed.Reading.{fold, fold_members, is_never, rest_of, shape_of_rest, with_required, is_key, is_required}
+use Rattle.tmpl_json_schema.specs.computed.Reading.{fold, fold_members, rest_of, shape_of_rest, with_required, is_key, is_required}
 use Rattle.tmpl_json_schema.specs.computed.Reading.{with_property}
-use Rattle.tmpl_json_schema.proofs.KindLemmas.{is-some, not-some, never-has}
+use Rattle.tmpl_json_schema.proofs.KindLemmas.{is-some, not-some}
 
 module _ (N : Names) where
   -- ---- the rest

@@ -10,10 +10,12 @@ use Rattle.serde_json.specs.declared.value.Value as tree
 use Rattle.tmpl_values.specs.Value.{Value, nothing, null, boolean, number, string, sequence, mapping}
 use Rattle.tmpl_shape.specs.Shape.{Shape, never, nothings, nulls, truths, numbers, texts, exactly, anything, list_of, record_of, either, named, Names, Fields}
 use Rattle.tmpl_shape.specs.Shape.{HasShape}
+use Rattle.tmpl_shape.specs.computed.Meet.{or_shape}
+use Rattle.tmpl_shape.proofs.MeetLemmas.{or-one, or-other}
 use Rattle.tmpl_json_schema.specs.Document.{IsInstance, HasType, type_of, SomeItem, IsNameOfType, IsOfType, IsConstant, IsOneOf}
 use Rattle.tmpl_json_schema.specs.declared.kinds.Kinds.{Kinds}
 use Rattle.tmpl_json_schema.specs.computed.Reading.{fold, either_kinds, both_kinds, no_kind, kind_named, kind_with, type_kinds}
-use Rattle.tmpl_json_schema.specs.computed.Reading.{text_with, const_texts, item_count, is_short, enum_texts, texts_in, constant_kind, constant_with, enum_kinds, is_never, or_shape, or_if, by_kinds, if_kind, keep_kinds}
+use Rattle.tmpl_json_schema.specs.computed.Reading.{text_with, const_texts, item_count, is_short, enum_texts, texts_in, constant_kind, constant_with, enum_kinds, or_if, by_kinds, if_kind, keep_kinds}
 
 -- a value is of one of the kinds
 abbrev pub HasKind : Kinds → Value → Type 0
@@ -144,32 +146,12 @@ pub ruleset item_counts = (items-count)
 -- ---- shapes
 
 module _ (N : Names) where
-  pub never-has : (s : Shape) (v : Value) → is_never s ≡ true → HasShape N s v → ⊥
-  never-has never v e h = h
-  never-has s v e h = false≢true e
-
-  pub or-one : (s t : Shape) (v : Value) → HasShape N s v → HasShape N (or_shape s t) v
-  or-one s t v h = by (is_never s) refl (is_never t)
-    where
-      by : (a : Bool) → is_never s ≡ a → (b : Bool) → HasShape N (if a then t else if b then s else either s t) v
-      by true e b = absurd (never-has s v e h)
-      by false e true = h
-      by false e false = inl h
-
-  pub or-other : (s t : Shape) (v : Value) → HasShape N t v → HasShape N (or_shape s t) v
-  or-other s t v h = by (is_never s) (is_never t) refl
-    where
-      by : (a b : Bool) → is_never t ≡ b → HasShape N (if a then t else if b then s else either s t) v
-      by true b e = h
-      by false true e = absurd (never-has t v e h)
-      by false false e = inr h
-
   or_if-one : (c : Bool) (s t : Shape) (v : Value) → c ≡ true → HasShape N s v → HasShape N (or_if c s t) v
-  or_if-one true s t v e h = or-one s t v h
+  or_if-one true s t v e h = or-one N s t v h
   or_if-one false s t v e h = absurd (false≢true e)
 
   or_if-other : (c : Bool) (s t : Shape) (v : Value) → HasShape N t v → HasShape N (or_if c s t) v
-  or_if-other true s t v h = or-other s t v h
+  or_if-other true s t v h = or-other N s t v h
   or_if-other false s t v h = h
 
   -- ---- strings
@@ -178,8 +160,8 @@ module _ (N : Names) where
       → HasShape N b (string s)
   texts_with-has s no_items a b e h = elim h [ inl x ↦ is-some (λ t. HasShape N t (string s)) a b e x | inr x ↦ absurd x ]
   texts_with-has s (json.item (json.string t) ds) a b e h = texts_with-has s ds (or_shape (exactly t) a) b e (elim h [
-    | inl x ↦ inl (or-other (exactly t) a (string s) x)
-    | inr x ↦ elim x [ inl y ↦ inl (or-one (exactly t) a (string s) y) | inr y ↦ inr y ]
+    | inl x ↦ inl (or-other N (exactly t) a (string s) x)
+    | inr x ↦ elim x [ inl y ↦ inl (or-one N (exactly t) a (string s) y) | inr y ↦ inr y ]
   ])
   texts_with-has s (json.item json.null ds) a b e h = texts_with-has s ds a b e (elim h [ inl x ↦ inl x | inr x ↦ elim x [ inl y ↦ absurd y | inr y ↦ inr y ] ])
   texts_with-has s (json.item (json.boolean c) ds) a b e h = texts_with-has s ds a b e (elim h [ inl x ↦ inl x | inr x ↦ elim x [ inl y ↦ absurd y | inr y ↦ inr y ] ])
@@ -280,8 +262,8 @@ module _ (N : Names) where
   kept-has ks (record_of fs) (mapping es) k h = if_kind-has ks.map (record_of fs) (mapping es) k h
   kept-has ks (record_of fs) v k h = absurd h
   kept-has ks (either s t) v k h = elim h [
-    | inl x ↦ or-one (keep_kinds ks s) (keep_kinds ks t) v (kept-has ks s v k x)
-    | inr x ↦ or-other (keep_kinds ks s) (keep_kinds ks t) v (kept-has ks t v k x)
+    | inl x ↦ or-one N (keep_kinds ks s) (keep_kinds ks t) v (kept-has ks s v k x)
+    | inr x ↦ or-other N (keep_kinds ks s) (keep_kinds ks t) v (kept-has ks t v k x)
   ]
   kept-has ks anything v k h = h
   kept-has ks (named x) v k h = h

@@ -1,5 +1,7 @@
 //! Values of a schema: one for each way to choose, where there are several.
 
+ghost use Rattle.std.specs.Prelude.{◌≡◌, []};
+
 use crate::Result;
 use crate::conform::{LEVELS, conforms, is_excluded, is_property, referred, text_of_format};
 use crate::fields::{has_content, least_in, requires_key};
@@ -61,7 +63,10 @@ pub struct Draw<'d> {
 type Drawn = Result<Option<Value>>;
 
 impl<'d> Draw<'d> {
-    pub fn new(alloc: Global, root: &'d Value, is_lean: bool, flips: &'d [Flip]) -> Draw<'d> {
+    /// Nothing is made or chosen yet.
+    pub fn new(alloc: Global, root: &'d Value, is_lean: bool, flips: &'d [Flip]) -> Draw<'d>
+        ensures { (result.counts.items ≡ []) × (result.parts ≡ 0) × (result.is_lean ≡ is_lean) × (result.flips.now ≡ flips.now) }
+    {
         Draw {
             root,
             alloc,

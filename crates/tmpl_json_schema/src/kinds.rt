@@ -2,7 +2,7 @@
 ghost use Rattle.std.specs.Prelude.{◌≡◌, IfOk, Some};
 ghost use Rattle.serde_json.specs.View.{items_view, view};
 ghost use Rattle.tmpl_json_schema.specs.computed.Reading.{both_kinds, const_in, constant_kind, either_kinds, enum_in, enum_kinds, every_kind};
-ghost use Rattle.tmpl_json_schema.specs.computed.Reading.{constant_with, fold, is_every_kind, kind_named, kind_with, kinds_in, no_kind, type_kinds, types_in};
+ghost use Rattle.tmpl_json_schema.specs.computed.Reading.{constant_with, fold, is_every_kind, kind_named, kind_with, kinds_in, kinds_of, no_kind, type_kinds, types_in};
 
 use crate::fault::{SchemaFault, at_index, refusal, refusal_of, under};
 use serde_json::Value;
@@ -274,12 +274,18 @@ pub(crate) fn kinds_in(alloc: Global, schema: &Value) -> Result<Kinds, SchemaFau
     Ok(both_kinds(types, both_kinds(constants, const_in(schema))))
 }
 
-/// The kinds of values that a schema lets through by itself, where it is one that was read.
-pub fn kinds_of(alloc: Global, schema: &Value) -> Kinds {
+/// The kinds of values that a schema lets through by its `type`, `enum` and `const`.
+///
+/// # Errors
+///
+/// `Refused` where what stands under one of these is not what it wants, and `OutOfMemory` where memory runs out.
+pub fn kinds_of(alloc: Global, schema: &Value) -> Result<Kinds, SchemaFault>
+    ensures { IfOk result (λ ks. kinds_of (view schema.now) ≡ Some ks) }
+{
     match schema {
-        Value::Bool(true) => every_kind(),
-        Value::Bool(false) => no_kind(),
-        _ => kinds_in(alloc, schema).unwrap_or(NO_KIND),
+        Value::Bool(true) => Ok(every_kind()),
+        Value::Bool(false) => Ok(no_kind()),
+        _ => kinds_in(alloc, schema),
     }
 }
 

@@ -32,7 +32,7 @@ pub use fault::{Refused, SchemaFault};
 pub use fields::{has_content, least_items, requires_key};
 pub use infer::infer_schema;
 pub use kinds::{Kinds, is_every_kind, kinds_of, lets_no_map};
-pub use read::{choices_in, chosen_by, items_in, part_in};
+pub use read::{choices_in, chosen_by, items_in};
 pub use schema::{read_document, read_schema, warnings_of};
 pub use violation::{Violation, violations_of};
 

@@ -7,33 +7,39 @@ ghost use Rattle.serde_json.specs.Find.{get};
 ghost use Rattle.serde_json.specs.View.{items_view, members_view, view};
 ghost use Rattle.tmpl_shape.specs.Shape.{never};
 ghost use Rattle.tmpl_shape.specs.View.{fields_of, shape_of};
+ghost use Rattle.tmpl_shape.specs.computed.Meet.{meet};
 ghost use Rattle.tmpl_json_schema.specs.Document.{items_in};
-ghost use Rattle.tmpl_json_schema.specs.computed.Reading.{additional_in, beside_shape, choice_shape, choice_with, choices_in, content_shape, fields_in, fold};
-ghost use Rattle.tmpl_json_schema.specs.computed.Reading.{first_of, fold_members, is_unread, items_shape, listed_in, object_shape, part_in, plain_shape};
-ghost use Rattle.tmpl_json_schema.specs.computed.Reading.{properties_in, shape_by, whole_shape, with_pattern, with_patterns, with_property};
+ghost use Rattle.tmpl_json_schema.specs.computed.Reading.{additional_in, beside_shape, choice_shape, choice_with, choices_in, content_shape, context_of, fields_in, fold};
+ghost use Rattle.tmpl_json_schema.specs.computed.Reading.{fold_members, has_start, is_unread, items_shape, joint_shape, kinds_shape, listed_in, look_by, object_shape, part_by, part_with};
+ghost use Rattle.tmpl_json_schema.specs.computed.Reading.{parts_shape, plain_shape, properties_in, read_by, referred, shape_by, start_shape, tells_more, with_parts, with_pattern, with_patterns, with_property};
 
 use crate::draft::Draft;
 use crate::fault::{SchemaFault, at_index, refusal, refusal_of, under};
 use crate::fields::{has_content, is_required, least_in, required_in};
 use crate::kinds::{Kinds, is_every_kind, kinds_in};
-use crate::reference::{fragment_of, is_listed};
-use crate::shapes::{by_kinds, is_anything, kept, or_shape, rest_of};
+use crate::reference::{fragment_of, is_listed, pointed};
+use crate::shapes::{by_kinds, is_anything, kept, rest_of};
 use crate::texts::texts_in;
 use serde_json::{Map, Value};
 use std::alloc::Global;
-use tmpl_schema::{Fields, Shape, put_field};
+use tmpl_shape::{Base, Fields, Shape, copy_name, meet, or_shape, put_field};
 use tmpl_values::Bytes;
 
 /// The most alternatives that a shape may have: they are dropped one inside the other.
 const MOST_ALTERNATIVES: usize = 1_500;
 
-/// What is asked of a document while it is read: its draft, the pointers that a `$ref` may have, and the memory for shapes.
+/// What is asked of a document while it is read: its draft, the pointers that a `$ref` may have, itself, and what is needed
+/// to compute with shapes.
 #[derive(Clone, Copy)]
 pub(crate) struct Reader<'s> {
     pub(crate) draft: Draft,
     pub(crate) names: &'s [Bytes],
+    pub(crate) root: &'s Value,
     /// How many levels of a schema are read.
     pub(crate) levels: usize,
+    /// How many parts of `allOf` that are references are looked up, one in the other.
+    pub(crate) lookups: usize,
+    pub(crate) base: Base<'s>,
     pub(crate) alloc: Global,
 }
 
@@ -85,11 +91,34 @@ pub fn choices_in(schema: &Value) -> Option<&Value>
     }
 }
 
+/// Whether something tells of fields and items, or there are alternatives.
+fn has_start(schema: &Value) -> bool
+    ensures { result ≡ has_start (view schema.now) }
+{
+    has_content(schema) || choices_in(schema).is_some()
+}
+
+/// Whether something is told of fields, items, alternatives or parts.
+fn tells_more(schema: &Value) -> bool
+    ensures { result ≡ tells_more (view schema.now) }
+{
+    has_start(schema) || schema.get("allOf").is_some()
+}
+
 /// The shape of a schema, in which as many levels are read as there are steps.
 #[cycle(read)]
 pub(crate) fn shape_by(reader: &Reader<'_>, steps: usize, schema: &Value) -> Read
-    ensures { IfOk result (λ s. shape_by reader.now.draft reader.now.names.now steps (view schema.now) ≡ Some (shape_of s)) }
+    ensures { IfOk result (λ s. read_by reader.now steps (view schema.now) ≡ Some (shape_of s)) }
 {
+    schema_shape(reader, steps, false, schema)
+}
+
+/// The shape of a schema, or of a part of `allOf`, of which a reference is looked up.
+#[cycle(read)]
+fn schema_shape(reader: &Reader<'_>, steps: usize, is_part: bool, schema: &Value) -> Read
+    ensures { IfOk result (λ s. shape_by (context_of reader.now) steps reader.now.lookups is_part (view schema.now) ≡ Some (shape_of s)) }
+{
+    check_effort(reader)?;
     if steps == 0 {
         return Err(refusal(reader.alloc, "too many levels"));
     }
@@ -97,35 +126,107 @@ pub(crate) fn shape_by(reader: &Reader<'_>, steps: usize, schema: &Value) -> Rea
     match schema {
         Value::Bool(true) => Ok(Shape::Anything),
         Value::Bool(false) => Ok(Shape::Never),
-        Value::Object(_) => object_shape(reader, fewer, schema),
+        Value::Object(_) => object_shape(reader, fewer, is_part, schema),
         Value::Null | Value::Number(_) | Value::String(_) | Value::Array(_) => {
             Err(refusal(reader.alloc, "a schema is wanted: an object, true or false"))
         }
     }
 }
 
+/// Refuses a document whose parts of `allOf` come to too much.
+fn check_effort(reader: &Reader<'_>) -> Result<(), SchemaFault> {
+    reader.base.effort.spend(1);
+    if reader.base.effort.is_spent() {
+        return Err(refusal(reader.alloc, "the parts of \"allOf\" come to too much"));
+    }
+    Ok(())
+}
+
+/// The values that two shapes share.
+fn meet_shapes(reader: &Reader<'_>, one: &Shape, other: &Shape) -> Read
+    ensures { IfOk result (λ s. shape_of s ≡ meet reader.now.levels (shape_of one.now) (shape_of other.now)) }
+{
+    let shape = meet(&reader.base, reader.levels, one, other)?;
+    check_effort(reader)?;
+    Ok(shape)
+}
+
 /// The shape of a schema that is an object.
 #[cycle(read)]
-fn object_shape(reader: &Reader<'_>, steps: usize, schema: &Value) -> Read
-    ensures { IfOk result (λ s. object_shape (shape_by reader.now.draft reader.now.names.now steps) reader.now.draft
-        reader.now.names.now (view schema.now) ≡ Some (shape_of s)) }
+fn object_shape(reader: &Reader<'_>, steps: usize, is_part: bool, schema: &Value) -> Read
+    ensures { IfOk result (λ s. object_shape (context_of reader.now) (read_by reader.now steps) (part_by reader.now steps)
+        (look_by reader.now steps) is_part (view schema.now) ≡ Some (shape_of s)) }
 {
     check_const(reader, schema)?;
     match pointer_of(reader, schema)? {
-        Some(pointer) => Ok(Shape::Named(pointer)),
+        Some(pointer) => referred_shape(reader, steps, is_part, schema, pointer),
         None => beside_shape(reader, steps, schema),
+    }
+}
+
+/// The shape of what a reference stands for, and of what stands beside it.
+#[cycle(read)]
+fn referred_shape(
+    reader: &Reader<'_>,
+    steps: usize,
+    is_part: bool,
+    schema: &Value,
+    pointer: Bytes,
+) -> Read
+    ensures { IfOk result (λ s. referred (context_of reader.now) (read_by reader.now steps) (part_by reader.now steps)
+        (look_by reader.now steps) is_part (view schema.now) pointer ≡ Some (shape_of s)) }
+{
+    if reader.draft.is_since_2019() && tells_more(schema) {
+        let one = look_up(reader, steps, pointer.as_slice())?;
+        let other = kinds_shape(reader, steps, schema)?;
+        return meet_shapes(reader, &one, &other);
+    }
+    if is_part {
+        return look_up(reader, steps, pointer.as_slice());
+    }
+    Ok(Shape::Named(pointer))
+}
+
+/// The shape of what stands at a pointer, as far as that is looked up. A fault in it is told where it stands, when the
+/// definitions are read.
+#[cycle(read)]
+fn look_up(reader: &Reader<'_>, steps: usize, pointer: &[u8]) -> Read
+    ensures { IfOk result (λ s. look_by reader.now steps pointer.now ≡ Some (shape_of s)) }
+{
+    if reader.lookups == 0 {
+        return Ok(Shape::Named(copy_name(reader.alloc, pointer)?));
+    }
+    let nearer = Reader {
+        lookups: reader.lookups - 1,
+        ..*reader
+    };
+    match pointed(reader.root, pointer) {
+        Some(schema) => schema_shape(&nearer, steps, true, schema),
+        None => Err(refusal(
+            reader.alloc,
+            "a reference points to nothing in the document",
+        )),
     }
 }
 
 /// The shape of a schema beside a `$ref` that is not looked up, if there is one.
 #[cycle(read)]
 fn beside_shape(reader: &Reader<'_>, steps: usize, schema: &Value) -> Read
-    ensures { IfOk result (λ s. beside_shape (shape_by reader.now.draft reader.now.names.now steps) reader.now.draft
-        (view schema.now) (get (codes "$ref") (view schema.now)) ≡ Some (shape_of s)) }
+    ensures { IfOk result (λ s. beside_shape (context_of reader.now) (read_by reader.now steps) (part_by reader.now steps)
+        (look_by reader.now steps) (view schema.now) (get (codes "$ref") (view schema.now)) ≡ Some (shape_of s)) }
 {
     if schema.get("$ref").is_some() && !reader.draft.is_since_2019() {
         return Ok(Shape::Anything);
     }
+    kinds_shape(reader, steps, schema)
+}
+
+/// The shape of a schema by all but its `$ref`.
+#[cycle(read)]
+fn kinds_shape(reader: &Reader<'_>, steps: usize, schema: &Value) -> Read
+    ensures { IfOk result (λ s. kinds_shape (context_of reader.now) (read_by reader.now steps) (part_by reader.now steps)
+        (look_by reader.now steps) (view schema.now) ≡ Some (shape_of s)) }
+{
     let kinds = kinds_in(reader.alloc, schema)?;
     plain_shape(reader, steps, schema, kinds)
 }
@@ -141,60 +242,103 @@ fn check_const(reader: &Reader<'_>, schema: &Value) -> Result<(), SchemaFault>
     Ok(())
 }
 
-/// The shape of a schema without a `$ref`.
+/// The shape of values of these kinds, by all but a `$ref`.
 #[cycle(read)]
 fn plain_shape(reader: &Reader<'_>, steps: usize, schema: &Value, kinds: Kinds) -> Read
-    ensures { IfOk result (λ s. plain_shape (shape_by reader.now.draft reader.now.names.now steps) (view schema.now) kinds
-        ≡ Some (shape_of s)) }
+    ensures { IfOk result (λ s. plain_shape (context_of reader.now) (read_by reader.now steps) (part_by reader.now steps)
+        (look_by reader.now steps) (view schema.now) kinds ≡ Some (shape_of s)) }
+{
+    match schema.get("allOf") {
+        Some(parts) => with_parts(reader, steps, schema, kinds, parts),
+        None => start_shape(reader, steps, schema, kinds),
+    }
+}
+
+/// The same, where there are parts of `allOf`.
+#[cycle(read)]
+fn with_parts(
+    reader: &Reader<'_>,
+    steps: usize,
+    schema: &Value,
+    kinds: Kinds,
+    parts: &Value,
+) -> Read
+    ensures { IfOk result (λ s. with_parts (context_of reader.now) (read_by reader.now steps) (part_by reader.now steps)
+        (look_by reader.now steps) (view schema.now) kinds (view parts.now) ≡ Some (shape_of s)) }
+{
+    if has_start(schema) {
+        let start = start_shape(reader, steps, schema, kinds)?;
+        return parts_shape(reader, steps, start, parts);
+    }
+    let shape = joint_shape(reader, steps, parts)?;
+    Ok(kept(reader.alloc, kinds, shape)?)
+}
+
+/// The shape that the parts of `allOf` share, where nothing else is told. One part alone is no more looked up than elsewhere.
+#[cycle(read)]
+fn joint_shape(reader: &Reader<'_>, steps: usize, parts: &Value) -> Read
+    ensures { IfOk result (λ s. joint_shape (context_of reader.now) (read_by reader.now steps) (part_by reader.now steps)
+        (look_by reader.now steps) (view parts.now) ≡ Some (shape_of s)) }
+{
+    match parts {
+        Value::Array(list) => match list.as_slice() {
+            [part] => match shape_by(reader, steps, part) {
+                Ok(shape) => Ok(shape),
+                Err(fault) => {
+                    let fault = under(reader.alloc, fault, "0");
+                    Err(under(reader.alloc, fault, "allOf"))
+                }
+            },
+            [] => Ok(Shape::Anything),
+            [_, _, ..] => parts_shape(reader, steps, Shape::Anything, parts),
+        },
+        _ => Ok(Shape::Anything),
+    }
+}
+
+/// The shape, met with that of each part of `allOf`.
+#[cycle(read)]
+fn parts_shape(reader: &Reader<'_>, steps: usize, shape: Shape, parts: &Value) -> Read
+    ensures { IfOk result (λ s. parts_shape (context_of reader.now) (read_by reader.now steps) (part_by reader.now steps)
+        (look_by reader.now steps) (shape_of shape) (view parts.now) ≡ Some (shape_of s)) }
+{
+    match parts {
+        Value::Array(parts) => match each_part(reader, steps, shape, parts.as_slice()) {
+            Ok(shape) => Ok(shape),
+            Err(fault) => Err(under(reader.alloc, fault, "allOf")),
+        },
+        _ => Ok(shape),
+    }
+}
+
+/// The shape, met with that of each of these.
+#[cycle(read)]
+fn each_part(reader: &Reader<'_>, steps: usize, shape: Shape, parts: &[Value]) -> Read
+    ensures { IfOk result (λ s. fold (part_with (context_of reader.now) (read_by reader.now steps) (part_by reader.now steps)
+        (look_by reader.now steps)) (shape_of shape) (items_view parts.now) ≡ Some (shape_of s)) }
+{
+    let mut all = shape;
+    let mut index: usize = 0;
+    for part in parts {
+        let one = match schema_shape(reader, steps, true, part) {
+            Ok(one) => one,
+            Err(fault) => return Err(at_index(reader.alloc, fault, index)),
+        };
+        all = meet_shapes(reader, &all, &one)?;
+        index = index.saturating_add(1);
+    }
+    Ok(all)
+}
+
+/// The shape of alternatives, or by the keywords of fields and items.
+#[cycle(read)]
+fn start_shape(reader: &Reader<'_>, steps: usize, schema: &Value, kinds: Kinds) -> Read
+    ensures { IfOk result (λ s. start_shape (read_by reader.now steps) (view schema.now) kinds ≡ Some (shape_of s)) }
 {
     match choices_in(schema) {
         Some(choices) => match choice_shape(reader, steps, choices) {
             Ok(shape) => Ok(kept(reader.alloc, kinds, shape)?),
             Err(fault) => Err(under(reader.alloc, fault, chosen_by(schema))),
-        },
-        None => whole_shape(reader, steps, schema, kinds),
-    }
-}
-
-/// The first part of `allOf`, if it is a list that has one.
-fn first_of(parts: &Value) -> Option<&Value>
-    ensures { option_map (λ v. view v.now) result ≡ first_of (view parts.now) }
-{
-    match parts {
-        Value::Array(parts) => match parts.as_slice() {
-            [first, ..] => Some(first),
-            [] => None,
-        },
-        _ => None,
-    }
-}
-
-/// The first part of `allOf`, where there are no keywords of fields and items.
-pub fn part_in(schema: &Value) -> Option<&Value>
-    ensures { option_map (λ v. view v.now) result ≡ part_in (view schema.now) }
-{
-    if has_content(schema) {
-        return None;
-    }
-    match schema.get("allOf") {
-        Some(parts) => first_of(parts),
-        None => None,
-    }
-}
-
-/// The shape of a schema without a `$ref` and without alternatives.
-#[cycle(read)]
-fn whole_shape(reader: &Reader<'_>, steps: usize, schema: &Value, kinds: Kinds) -> Read
-    ensures { IfOk result (λ s. whole_shape (shape_by reader.now.draft reader.now.names.now steps) (view schema.now) kinds
-        ≡ Some (shape_of s)) }
-{
-    match part_in(schema) {
-        Some(part) => match shape_by(reader, steps, part) {
-            Ok(shape) => Ok(kept(reader.alloc, kinds, shape)?),
-            Err(fault) => {
-                let fault = under(reader.alloc, fault, "0");
-                Err(under(reader.alloc, fault, "allOf"))
-            }
         },
         None => content_shape(reader, steps, schema, kinds),
     }
@@ -212,7 +356,7 @@ pub fn chosen_by(schema: &Value) -> &'static str {
 /// The shape of any of these.
 #[cycle(read)]
 fn choice_shape(reader: &Reader<'_>, steps: usize, choices: &Value) -> Read
-    ensures { IfOk result (λ s. choice_shape (shape_by reader.now.draft reader.now.names.now steps) (view choices.now)
+    ensures { IfOk result (λ s. choice_shape (read_by reader.now steps) (view choices.now)
         ≡ Some (shape_of s)) }
 {
     match choices {
@@ -235,7 +379,7 @@ fn count_alternatives(shape: &Shape) -> usize {
 /// The shape of any of the schemas.
 #[cycle(read)]
 fn some_shape(reader: &Reader<'_>, steps: usize, choices: &[Value]) -> Read
-    ensures { IfOk result (λ s. fold (choice_with (shape_by reader.now.draft reader.now.names.now steps)) never
+    ensures { IfOk result (λ s. fold (choice_with (read_by reader.now steps)) never
         (items_view choices.now) ≡ Some (shape_of s)) }
 {
     let mut shape = Shape::Never;
@@ -259,7 +403,7 @@ fn some_shape(reader: &Reader<'_>, steps: usize, choices: &[Value]) -> Read
 /// The shape of values of these kinds, by the keywords of fields and items.
 #[cycle(read)]
 fn content_shape(reader: &Reader<'_>, steps: usize, schema: &Value, kinds: Kinds) -> Read
-    ensures { IfOk result (λ s. content_shape (shape_by reader.now.draft reader.now.names.now steps) (view schema.now) kinds
+    ensures { IfOk result (λ s. content_shape (read_by reader.now steps) (view schema.now) kinds
         ≡ Some (shape_of s)) }
 {
     if is_every_kind(kinds) && !has_content(schema) {
@@ -291,7 +435,7 @@ pub fn items_in(schema: &Value) -> Option<&Value>
 /// The shape of items.
 #[cycle(read)]
 fn items_shape(reader: &Reader<'_>, steps: usize, schema: &Value) -> Read
-    ensures { IfOk result (λ s. items_shape (shape_by reader.now.draft reader.now.names.now steps) (view schema.now)
+    ensures { IfOk result (λ s. items_shape (read_by reader.now steps) (view schema.now)
         ≡ Some (shape_of s)) }
 {
     match items_in(schema) {
@@ -306,7 +450,7 @@ fn items_shape(reader: &Reader<'_>, steps: usize, schema: &Value) -> Read
 /// The shape of fields that are not named.
 #[cycle(read)]
 fn additional_shape(reader: &Reader<'_>, steps: usize, schema: &Value) -> Read
-    ensures { IfOk result (λ s. additional_in (shape_by reader.now.draft reader.now.names.now steps) (view schema.now)
+    ensures { IfOk result (λ s. additional_in (read_by reader.now steps) (view schema.now)
         (get (codes "additionalProperties") (view schema.now)) ≡ Some (shape_of s)) }
 {
     match schema.get("additionalProperties") {
@@ -321,7 +465,7 @@ fn additional_shape(reader: &Reader<'_>, steps: usize, schema: &Value) -> Read
 /// The shape of fields whose names one of the patterns may match too.
 #[cycle(read)]
 fn with_patterns(reader: &Reader<'_>, steps: usize, patterns: Option<&Value>, shape: Shape) -> Read
-    ensures { IfOk result (λ s. with_patterns (shape_by reader.now.draft reader.now.names.now steps)
+    ensures { IfOk result (λ s. with_patterns (read_by reader.now steps)
         (option_map (λ v. view v.now) patterns.entry) (shape_of shape) ≡ Some (shape_of s)) }
 {
     match patterns {
@@ -347,7 +491,7 @@ fn with_each_pattern(
     patterns: &Map<String, Value>,
     shape: Shape,
 ) -> Read
-    ensures { IfOk result (λ s. fold_members (with_pattern (shape_by reader.now.draft reader.now.names.now steps))
+    ensures { IfOk result (λ s. fold_members (with_pattern (read_by reader.now steps))
         (shape_of shape) (members_view patterns.now.entries) ≡ Some (shape_of s)) }
 {
     let mut all = shape;
@@ -370,7 +514,7 @@ fn with_each_pattern(
 /// The fields of a map.
 #[cycle(read)]
 fn fields_in(reader: &Reader<'_>, steps: usize, schema: &Value) -> Result<Fields, SchemaFault>
-    ensures { IfOk result (λ fs. fields_in (shape_by reader.now.draft reader.now.names.now steps) (view schema.now)
+    ensures { IfOk result (λ fs. fields_in (read_by reader.now steps) (view schema.now)
         ≡ Some (fields_of fs)) }
 {
     let additional = additional_shape(reader, steps, schema)?;
@@ -387,7 +531,7 @@ fn properties_in(
     schema: &Value,
     fields: Fields,
 ) -> Result<Fields, SchemaFault>
-    ensures { IfOk result (λ fs. properties_in (shape_by reader.now.draft reader.now.names.now steps) (view schema.now)
+    ensures { IfOk result (λ fs. properties_in (read_by reader.now steps) (view schema.now)
         (fields_of fields) ≡ Some (fields_of fs)) }
 {
     match schema.get("properties") {
@@ -415,7 +559,7 @@ fn property_fields(
     fields: Fields,
     members: &Map<String, Value>,
 ) -> Result<Fields, SchemaFault>
-    ensures { IfOk result (λ fs. fold_members (with_property (shape_by reader.now.draft reader.now.names.now steps)
+    ensures { IfOk result (λ fs. fold_members (with_property (read_by reader.now steps)
         (option_map (λ v. view v.now) required.entry)) (fields_of fields) (members_view members.now.entries)
         ≡ Some (fields_of fs)) }
 {

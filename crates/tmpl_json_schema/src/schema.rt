@@ -9,6 +9,7 @@ ghost use Rattle.tmpl_shape.specs.Shape.{Fits};
 ghost use Rattle.tmpl_shape.specs.View.{defs_in, schema_of};
 ghost use Rattle.tmpl_json_schema.specs.Document.{IsOfSchema, document_of, draft_of};
 ghost use Rattle.tmpl_json_schema.specs.Keywords.{AreKnownAt, IsKnown};
+ghost use Rattle.tmpl_json_schema.specs.computed.Reading.{context_of};
 ghost use Rattle.tmpl_json_schema.specs.computed.Defined.{AreLookedUp, IsDefinition, are_defined};
 
 use crate::Result;
@@ -22,11 +23,17 @@ use crate::reference::{MOST_DEFINITIONS, fragment_of, is_listed, pointed, under_
 use serde_json::Value;
 use std::alloc::{AllocError, Global};
 use std::str::from_utf8;
-use tmpl_schema::{Definition, Schema, Shape, copy_name};
+use tmpl_shape::{Base, Definition, Effort, Schema, Shape, copy_name};
 use tmpl_values::Bytes;
 
 /// How many levels of a document are read: more than JSON may have.
 const LEVELS: usize = 200;
+
+/// How many parts of `allOf` that are references are looked up, one in the other: past that they stand for themselves.
+const LOOKUPS: usize = 3;
+
+/// The most schemas that are read and shapes that are copied where parts of `allOf` are put together.
+const MOST_EFFORT: u64 = 2_000_000;
 
 /// The most values that a document may have, each item and member counted, and those that are read more than once as often.
 const MOST_VALUES: usize = 30_000;
@@ -121,10 +128,10 @@ fn add_name(alloc: Global, root: &Value, reference: &Value, names: &mut Vec<Byte
 }
 
 /// The definition of what a pointer points to.
-fn definition_of(reader: &Reader<'_>, root: &Value, name: &[u8]) -> Result<Definition, SchemaFault>
-    ensures { IfOk result (λ d. IsDefinition reader.now.draft (view root.now) reader.now.names.now reader.now.levels d) }
+fn definition_of(reader: &Reader<'_>, name: &[u8]) -> Result<Definition, SchemaFault>
+    ensures { IfOk result (λ d. IsDefinition (context_of reader.now) reader.now.lookups d) }
 {
-    let Some(value) = pointed(root, name) else {
+    let Some(value) = pointed(reader.root, name) else {
         return Err(refusal(
             reader.alloc,
             "a reference points to nothing in the document",
@@ -140,12 +147,12 @@ fn definition_of(reader: &Reader<'_>, root: &Value, name: &[u8]) -> Result<Defin
 }
 
 /// The definitions of what these pointers point to.
-fn definitions_of(reader: &Reader<'_>, root: &Value) -> Result<Vec<Definition>, SchemaFault>
-    ensures { IfOk result (λ ds. All (IsDefinition reader.now.draft (view root.now) reader.now.names.now reader.now.levels) ds.items) }
+fn definitions_of(reader: &Reader<'_>) -> Result<Vec<Definition>, SchemaFault>
+    ensures { IfOk result (λ ds. All (IsDefinition (context_of reader.now) reader.now.lookups) ds.items) }
 {
     let mut definitions = Vec::new(reader.alloc);
     for name in reader.names {
-        definitions.push(definition_of(reader, root, name.as_slice())?)?;
+        definitions.push(definition_of(reader, name.as_slice())?)?;
     }
     Ok(definitions)
 }
@@ -356,8 +363,13 @@ fn warnings_in(alloc: Global, root: &Value) -> Result<Vec<Refused>, SchemaFault>
     check_keywords(alloc, root, is_one_base(draft, root), names.as_slice())
 }
 
-/// The schema of a document, of which as many levels are read.
-fn schema_in(alloc: Global, levels: usize, root: &Value) -> Result<Schema, SchemaFault>
+/// The schema of a document, of which as many levels are read, by this much work.
+fn schema_in(
+    alloc: Global,
+    levels: usize,
+    effort: &Effort,
+    root: &Value,
+) -> Result<Schema, SchemaFault>
     ensures draft { OnOk result (IsSome (draft_of (view root.now))) }
     ensures fits { IfOk result (λ s. (v : DataValue) → IsOfSchema (view root.now) v → Fits (schema_of s) v) }
 {
@@ -369,14 +381,29 @@ fn schema_in(alloc: Global, levels: usize, root: &Value) -> Result<Schema, Schem
     }
     check_limits(alloc, root, names)?;
     check_keywords(alloc, root, is_one_base(draft, root), names)?;
-    let parts = Reader {
+    let reader = Reader {
         draft,
         names,
+        root,
         levels,
+        lookups: 0,
+        base: Base {
+            definitions: &[],
+            names: 0,
+            limit: 0,
+            effort,
+            alloc,
+        },
         alloc,
     };
-    let shape = shape_by(&parts, levels, root)?;
-    let definitions = definitions_of(&parts, root)?;
+    // A fault in a definition is told where it stands, and not where a part of `allOf` refers to it.
+    definitions_of(&reader)?;
+    let reader = Reader {
+        lookups: LOOKUPS,
+        ..reader
+    };
+    let shape = shape_by(&reader, levels, root)?;
+    let definitions = definitions_of(&reader)?;
     if !are_defined(definitions.as_slice(), names) {
         return Err(refusal(alloc, "a reference has no definition"));
     }
@@ -419,7 +446,8 @@ pub fn read_schema(alloc: Global, root: &Value) -> Result<Schema, SchemaFault>
     ensures definitions { IfOk result (λ s. AreKnownAt (view root.now) s.definitions.items) }
     ensures fits { IfOk result (λ s. (v : DataValue) → IsOfSchema (view root.now) v → Fits (schema_of s) v) }
 {
-    let schema = schema_in(alloc, LEVELS, root)?;
+    let effort = Effort::new(MOST_EFFORT);
+    let schema = schema_in(alloc, LEVELS, &effort, root)?;
     if !is_known(LEVELS, root) || !are_known_at(root, schema.definitions.as_slice()) {
         return Err(refusal(alloc, "a keyword is not known"));
     }

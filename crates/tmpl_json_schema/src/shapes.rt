@@ -3,30 +3,13 @@
 
 ghost use Rattle.std.specs.Prelude.{◌≡◌, IfOk};
 ghost use Rattle.tmpl_shape.specs.View.{fields_of, shape_of};
-ghost use Rattle.tmpl_shape.specs.computed.Shapes.{gathered};
-ghost use Rattle.tmpl_json_schema.specs.computed.Reading.{by_kinds, if_kind, is_anything, is_never, keep_kinds, or_if, or_shape, rest_of, shape_of_rest};
+ghost use Rattle.tmpl_shape.specs.computed.Meet.{or_shape};
+ghost use Rattle.tmpl_json_schema.specs.computed.Reading.{by_kinds, if_kind, is_anything, keep_kinds, or_if, rest_of, shape_of_rest};
 
 use crate::Result;
 use crate::kinds::Kinds;
 use std::alloc::Global;
-use tmpl_schema::{Fields, Shape, copy_shape, either, list_of};
-
-/// Whether there is no value.
-fn is_never(shape: &Shape) -> bool
-    ensures { result ≡ is_never (shape_of shape.now) }
-{
-    match shape {
-        Shape::Never => true,
-        Shape::Nothings
-        | Shape::Nulls
-        | Shape::Truths
-        | Shape::Numbers
-        | Shape::Texts
-        | Shape::Exactly(_)
-        | Shape::Anything => false,
-        Shape::List { .. } | Shape::Record(_) | Shape::Either(..) | Shape::Named(_) => false,
-    }
-}
+use tmpl_shape::{Fields, Shape, copy_shape, either, is_never, list_of, or_all, or_shape};
 
 /// Whether each value is one.
 pub(crate) fn is_anything(shape: &Shape) -> bool
@@ -43,19 +26,6 @@ pub(crate) fn is_anything(shape: &Shape) -> bool
         | Shape::Never => false,
         Shape::List { .. } | Shape::Record(_) | Shape::Either(..) | Shape::Named(_) => false,
     }
-}
-
-/// The values of the one and of the other.
-pub(crate) fn or_shape(alloc: Global, one: Shape, other: Shape) -> Result<Shape>
-    ensures { IfOk result (λ s. shape_of s ≡ or_shape (shape_of one) (shape_of other)) }
-{
-    if is_never(&one) {
-        return Ok(other);
-    }
-    if is_never(&other) {
-        return Ok(one);
-    }
-    either(alloc, one, other)
 }
 
 /// Those of the other, and of the one if that is asked for.
@@ -131,23 +101,6 @@ fn kept_either(alloc: Global, kinds: Kinds, one: Shape, other: Shape) -> Result<
     }
     let last = kept(alloc, kinds, rest)?;
     or_all(alloc, back, last)
-}
-
-/// The values of any of the first, of which the last stands foremost, and of the second.
-fn or_all(alloc: Global, back: Shape, last: Shape) -> Result<Shape>
-    ensures { IfOk result (λ all. shape_of all ≡ gathered or_shape (shape_of back) (shape_of last)) }
-{
-    let mut back = back;
-    let mut all = last;
-    loop {
-        match back {
-            Shape::Either(one, rest) => {
-                all = or_shape(alloc, Box::into_inner(one), all)?;
-                back = Box::into_inner(rest);
-            }
-            _ => return Ok(all),
-        }
-    }
 }
 
 /// The fields of this shape that are not named.

@@ -8,10 +8,9 @@ ghost use Rattle.tmpl_shape.specs.View.{shape_of};
 ghost use Rattle.tmpl_json_schema.specs.computed.Reading.{const_texts, enum_texts, fold, is_short, text_with, texts_in};
 
 use crate::Result;
-use crate::shapes::or_shape;
 use serde_json::Value;
 use std::alloc::Global;
-use tmpl_schema::{Shape, copy_name};
+use tmpl_shape::{Shape, copy_name, or_shape};
 
 /// The most constants of `enum` that are told apart.
 const MOST_CONSTANTS: usize = 32;

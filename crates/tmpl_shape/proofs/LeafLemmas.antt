@@ -16,23 +16,23 @@ use Rattle.tmpl_shape.specs.declared.shape.Field as held_field
 use Rattle.tmpl_shape.proofs.StepLemmas.{IsLeaf, IsEnd}
 use Rattle.tmpl_shape.proofs.ViewLemmas.{list_seen, record_seen, either_seen, named_seen, never_seen, nothings_seen, nulls_seen, truths_seen, numbers_seen, texts_seen, exactly_seen, anything_seen, closed_seen, others_seen}
 
-abbrev box : Box (Unit {0}) Global → held.Shape → Box held.Shape Global
+abbrev pub box : Box (Unit {0}) Global → held.Shape → Box held.Shape Global
 box p s = record { ptr = p.ptr; alloc = p.alloc; value = s }
 
 module _ (s : held.Shape) where
-  abbrev NotList : Type 0
+  abbrev pub NotList : Type 0
   NotList = (n : ℕ) (x : Box held.Shape Global) → s ≡ held.List n x → ⊥
 
-  abbrev NotExactly : Type 0
+  abbrev pub NotExactly : Type 0
   NotExactly = (t : List ℕ) → s ≡ held.Exactly t → ⊥
 
-  abbrev NotRecord : Type 0
+  abbrev pub NotRecord : Type 0
   NotRecord = (fs : held_fields.Fields) → s ≡ held.Record fs → ⊥
 
-  abbrev NotEither : Type 0
+  abbrev pub NotEither : Type 0
   NotEither = (x y : Box held.Shape Global) → s ≡ held.Either x y → ⊥
 
-  abbrev NotNamed : Type 0
+  abbrev pub NotNamed : Type 0
   NotNamed = (x : List ℕ) → s ≡ held.Named x → ⊥
 
 -- ---- kinds

@@ -7,4 +7,5 @@ pub mod NameLemmas
 pub mod ViewLemmas
 pub mod StepLemmas
 pub mod LeafLemmas
+pub mod MeetLemmas
 pub mod PartLemmas

@@ -69,7 +69,7 @@ fn requires_all(fields: &Fields, others: &Fields) -> bool
 }
 
 /// Whether there is a field of this name.
-fn is_listed(name: &[u8], fields: &Fields) -> bool
+pub(crate) fn is_listed(name: &[u8], fields: &Fields) -> bool
     ensures { result ≡ is_listed name.now (fields_of fields.now) }
 {
     let mut rest = fields;
@@ -178,7 +178,7 @@ fn some_part(
 
 /// Whether this string has a shape of one kind.
 #[tactic(auto, using(crate::proofs::ViewLemmas::parts, crate::proofs::LeafLemmas::plain))]
-fn text_within(text: &[u8], other: &Shape) -> bool
+pub(crate) fn text_within(text: &[u8], other: &Shape) -> bool
     ensures { result ≡ text_within text.now (shape_of other.now) }
 {
     match other {

@@ -8,6 +8,7 @@ mod effort;
 mod field;
 mod format;
 mod inclusion;
+mod intersection;
 mod kind;
 mod part;
 mod shape;
@@ -16,11 +17,12 @@ mod visit;
 
 pub use call::call_shape;
 pub use cause::{Cause, Trouble};
-pub use change::{fill, join, null_gone, refine};
+pub use change::{fill, is_never, join, null_gone, refine};
 pub use effort::Effort;
 pub use field::{Key, chain_shape, index_shape};
 pub use format::printf_shape;
 pub use inclusion::{has_name, within};
+pub use intersection::{meet, or_all, or_shape};
 pub use kind::{Kind, Kinds, has_kind, kinds_of};
 pub use part::part_shape;
 pub use shape::{

@@ -5,12 +5,16 @@ use Rattle.std.specs.Option.{option_map, option_map_or, option_and_then}
 use Rattle.std.specs.Str.{bytes_eq}
 use Rattle.serde_json.specs.Data as json
 use Rattle.serde_json.specs.Data.{Data, Items, no_items, Members, no_members, member}
-use Rattle.serde_json.specs.Find.{as_number, as_u64, get}
+use Rattle.serde_json.specs.Find.{as_number, as_u64, get, pointer}
+use Rattle.serde_json.specs.View.{view}
 use Rattle.tmpl_shape.specs.Shape.{Shape, never, nothings, nulls, truths, numbers, texts, exactly, anything, list_of, record_of}
 use Rattle.tmpl_shape.specs.Shape.{either, named, Fields, no_field, others, field}
+use Rattle.tmpl_shape.specs.computed.Meet.{meet, or_shape}
+use Rattle.tmpl_shape.specs.computed.Shapes.{is_never}
 use Rattle.tmpl_json_schema.specs.Document.{fragment_of, has_const, is_since_2019, items_in}
 use Rattle.tmpl_json_schema.specs.declared.draft.Draft.{Draft}
 use Rattle.tmpl_json_schema.specs.declared.kinds.Kinds.{Kinds}
+use Rattle.tmpl_json_schema.specs.declared.read.Reader as held_reader
 
 -- what comes of items one after the other, unless one gives nothing
 abbrev pub fold : {A : Type 0} → (A → Data → Option A) → A → Items → Option A
@@ -120,18 +124,17 @@ enum_in d = option_map_or enum_kinds (get (codes "enum") d) (Some every_kind)
 abbrev pub kinds_in : Data → Option Kinds
 kinds_in d = option_and_then (λ a. option_map (λ b. both_kinds a (both_kinds b (const_in d))) (enum_in d)) (types_in d)
 
--- ---- shapes
+-- .. of any schema
+abbrev pub kinds_of : Data → Option Kinds
+kinds_of (json.boolean true) = Some every_kind
+kinds_of (json.boolean false) = Some no_kind
+kinds_of d = kinds_in d
 
-abbrev pub is_never : Shape → Bool
-is_never never = true
-is_never s = false
+-- ---- shapes
 
 abbrev pub is_anything : Shape → Bool
 is_anything anything = true
 is_anything s = false
-
-abbrev pub or_shape : Shape → Shape → Shape
-or_shape s t = if is_never s then t else if is_never t then s else either s t
 
 abbrev pub or_if : Bool → Shape → Shape → Shape
 or_if c s t = if c then or_shape s t else t
@@ -243,14 +246,13 @@ abbrev pub listed_in : List (List ℕ) → Data → Option (List ℕ)
 listed_in names (json.string r) = option_and_then (if_listed names) (fragment_of r)
 listed_in names d = None
 
--- the first part of `allOf`
-abbrev pub first_of : Data → Option Data
-first_of (json.array (json.item d ds)) = Some d
-first_of d = None
+-- something tells of fields and items, or there are alternatives
+abbrev pub has_start : Data → Bool
+has_start d = has_content d || is_some (choices_in d)
 
--- .. where there are no keywords of fields and items
-abbrev pub part_in : Data → Option Data
-part_in d = if has_content d then None else option_and_then first_of (get (codes "allOf") d)
+-- .. or parts
+abbrev pub tells_more : Data → Bool
+tells_more d = has_start d || is_some (get (codes "allOf") d)
 
 abbrev pub required_in : Data → Fields → Option Fields
 required_in d rest = option_map_or (required_fields (get (codes "properties") d) rest) (get (codes "required") d) (Some rest)
@@ -302,28 +304,83 @@ module _ (read : Data → Option Shape) where
       if is_every_kind ks && not (has_content d) then Some anything
       else option_and_then (λ i. option_map (by_kinds ks (texts_in d) (least_in d) i) (fields_in d)) (items_shape d)
 
-  abbrev pub whole_shape : Data → Kinds → Option Shape
-  whole_shape d ks = option_map_or (λ p. option_map (keep_kinds ks) (read p)) (part_in d) (content_shape d ks)
+  -- what the parts of `allOf` are met with
+  abbrev pub start_shape : Data → Kinds → Option Shape
+  start_shape d ks = option_map_or (λ c. option_map (keep_kinds ks) (choice_shape c)) (choices_in d) (content_shape d ks)
+
+-- what a document is read by: its draft, the pointers that a `$ref` may have, itself, and how many levels are read
+pub record Context : Type 0 where
+  pub draft : Draft
+  pub names : List (List ℕ)
+  pub root : Data
+  pub levels : ℕ
+
+module _ (c : Context) (read part : Data → Option Shape) (look : List ℕ → Option Shape) where
+  -- the shape met with that of each part of `allOf`
+  abbrev pub part_with : Shape → Data → Option Shape
+  part_with s d = option_map (meet c.levels s) (part d)
+
+  abbrev pub parts_shape : Shape → Data → Option Shape
+  parts_shape s (json.array ds) = fold part_with s ds
+  parts_shape s d = Some s
+
+  -- where nothing else is told: that of the one part, or of all
+  abbrev pub joint_shape : Data → Option Shape
+  joint_shape (json.array (json.item d no_items)) = read d
+  joint_shape d = parts_shape anything d
+
+  abbrev pub with_parts : Data → Kinds → Data → Option Shape
+  with_parts d ks l = if has_start d then option_and_then (λ s. parts_shape s l) (start_shape read d ks) else option_map (keep_kinds ks) (joint_shape l)
 
   abbrev pub plain_shape : Data → Kinds → Option Shape
-  plain_shape d ks = option_map_or (λ c. option_map (keep_kinds ks) (choice_shape c)) (choices_in d) (whole_shape d ks)
+  plain_shape d ks = option_map_or (with_parts d ks) (get (codes "allOf") d) (start_shape read d ks)
+
+  abbrev pub kinds_shape : Data → Option Shape
+  kinds_shape d = option_and_then (plain_shape d) (kinds_in d)
 
   -- .. beside a `$ref` that is not looked up, if there is one
-  abbrev pub beside_shape : Draft → Data → Option Data → Option Shape
-  beside_shape draft d o =
-      if is_some o && not (is_since_2019 draft) then Some anything else option_and_then (plain_shape d) (kinds_in d)
+  abbrev pub beside_shape : Data → Option Data → Option Shape
+  beside_shape d o = if is_some o && not (is_since_2019 c.draft) then Some anything else kinds_shape d
 
-  abbrev pub object_shape : Draft → List (List ℕ) → Data → Option Shape
-  object_shape draft names d =
-      if is_unread draft d then None
-      else option_map_or (λ p. Some (named p)) (option_and_then (listed_in names) (get (codes "$ref") d)) (beside_shape draft d (get (codes "$ref") d))
+  -- what a `$ref` of this pointer stands for, and what stands beside it; of a part it is looked up
+  abbrev pub referred : Bool → Data → List ℕ → Option Shape
+  referred is_part d p =
+      if is_since_2019 c.draft && tells_more d then option_and_then (λ s. option_map (meet c.levels s) (kinds_shape d)) (look p)
+      else if is_part then look p else Some (named p)
 
--- the shape of a schema; what stands inside it is read as many levels deep
-abbrev pub shape_read : Draft → List (List ℕ) → (Data → Option Shape) → Data → Option Shape
-shape_read draft names read (json.boolean b) = Some (if b then anything else never)
-shape_read draft names read (json.object ms) = object_shape read draft names (json.object ms)
-shape_read draft names read d = None
+  abbrev pub object_shape : Bool → Data → Option Shape
+  object_shape is_part d =
+      if is_unread c.draft d then None
+      else option_map_or (referred is_part d) (option_and_then (listed_in c.names) (get (codes "$ref") d)) (beside_shape d (get (codes "$ref") d))
 
-abbrev pub shape_by : Draft → List (List ℕ) → ℕ → Data → Option Shape
-shape_by draft names zero d = None
-shape_by draft names (suc n) d = shape_read draft names (shape_by draft names n) d
+  -- the shape of a schema
+  abbrev pub shape_read : Bool → Data → Option Shape
+  shape_read is_part (json.boolean b) = Some (if b then anything else never)
+  shape_read is_part (json.object ms) = object_shape is_part (json.object ms)
+  shape_read is_part d = None
+
+module _ (c : Context) where
+  -- what stands at a pointer, where as many are looked up one in the other
+  abbrev pub looked_up : (ℕ → Data → Option Shape) → ℕ → List ℕ → Option Shape
+  looked_up read zero p = Some (named p)
+  looked_up read (suc k) p = option_and_then (read k) (pointer p c.root)
+
+  -- the shape of a schema, or of a part of one; what stands inside it is read as many levels deep
+  abbrev pub shape_by : ℕ → ℕ → Bool → Data → Option Shape
+  shape_by zero k is_part d = None
+  shape_by (suc n) k is_part d =
+      shape_read c (shape_by n k false) (shape_by n k true) (looked_up (λ j. shape_by n j true) k) is_part d
+
+-- ---- what a reader reads, where as many levels are left
+
+abbrev pub context_of : held_reader.Reader → Context
+context_of r = record { draft = r.draft; names = r.names.now; root = view r.root.now; levels = r.levels }
+
+abbrev pub read_by : held_reader.Reader → ℕ → Data → Option Shape
+read_by r n = shape_by (context_of r) n r.lookups false
+
+abbrev pub part_by : held_reader.Reader → ℕ → Data → Option Shape
+part_by r n = shape_by (context_of r) n r.lookups true
+
+abbrev pub look_by : held_reader.Reader → ℕ → List ℕ → Option Shape
+look_by r n = looked_up (context_of r) (λ j. shape_by (context_of r) n j true) r.lookups

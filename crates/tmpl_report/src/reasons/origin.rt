@@ -8,8 +8,8 @@ use percent_encoding::{DecodeError, percent_decode};
 use serde_json::Value;
 use std::alloc::{AllocError, Global};
 use tmpl_json_schema::{
-    Kinds, choices_in, chosen_by, is_every_kind, items_in, kinds_of, lets_no_map, part_in,
-    requires_key,
+    Kinds, SchemaFault, choices_in, chosen_by, has_content, is_every_kind, items_in, kinds_of,
+    lets_no_map, requires_key,
 };
 
 /// The most places that are followed at once.
@@ -117,8 +117,11 @@ pub(crate) fn below(alloc: Global, place: &str, part: &str) -> Result<String> {
 
 impl<'d> Document<'d> {
     /// The kinds of values that a schema lets through by itself.
-    pub(crate) fn kinds(&self, schema: &Value) -> Kinds {
-        kinds_of(self.alloc, schema)
+    pub(crate) fn kinds(&self, schema: &Value) -> Result<Kinds, Lost> {
+        kinds_of(self.alloc, schema).map_err(|fault| match fault {
+            SchemaFault::OutOfMemory => Lost::OutOfMemory,
+            SchemaFault::Refused(_) => Lost::Untold,
+        })
     }
 
     /// What stands at a place.
@@ -150,10 +153,10 @@ impl<'d> Document<'d> {
             return self.add_plain(fewer, referred.as_str(), plain);
         }
         let choices = choices_in(schema);
-        if choices.is_none() && part_in(schema).is_none() {
+        if choices.is_none() && (has_content(schema) || schema.get("allOf").is_none()) {
             return plain.add(String::from_str(self.alloc, place)?);
         }
-        if !is_every_kind(self.kinds(schema)) {
+        if !is_every_kind(self.kinds(schema)?) {
             return Err(Lost::Untold);
         }
         let Some(choices) = choices else {
@@ -230,7 +233,7 @@ impl<'d> Document<'d> {
     /// Adds where the elements of lists and maps come from that conform to the schema at a plain place.
     fn add_elements(&self, place: &str, elements: &mut Origin) -> Result<(), Lost> {
         let schema = self.schema_at(place)?;
-        let kinds = self.kinds(schema);
+        let kinds = self.kinds(schema)?;
         if kinds.list {
             self.add_under(place, "items", elements)?;
         }
@@ -247,7 +250,7 @@ impl<'d> Document<'d> {
         field.is_there = plain.is_there;
         for place in plain.places.as_slice() {
             let schema = self.schema_at(place.as_str())?;
-            let kinds = self.kinds(schema);
+            let kinds = self.kinds(schema)?;
             if kinds.map {
                 self.add_field(place.as_str(), name, &mut field)?;
             }

@@ -121,7 +121,7 @@ fn why_absent(document: Document<'_>, place: &str, name: &str) -> Found
     ensures { IfOk result (λ reason. IfSome reason (IsReason document.entry.bytes.now (Some absence))) }
 {
     let schema = document.schema_at(place)?;
-    if !document.kinds(schema).map || requires_key(schema, name) {
+    if !document.kinds(schema)?.map || requires_key(schema, name) {
         return Ok(None);
     }
     match schema.get("properties") {
@@ -155,7 +155,7 @@ fn why_kind(document: Document<'_>, place: &str, is_there: bool, word: &str) -> 
     ensures { IfOk result (λ reason. IfSome reason (IsReason document.entry.bytes.now (Some kind))) }
 {
     let schema = document.schema_at(place)?;
-    match lets_kind(schema, document.kinds(schema), word) {
+    match lets_kind(schema, document.kinds(schema)?, word) {
         Some(_) if word == "null" && !is_there => Err(Lost::Untold),
         Some(true) => reason_of_kind(document, schema, place),
         Some(false) => Ok(None),
@@ -180,7 +180,7 @@ fn why_few(document: Document<'_>, place: &str, count: u64) -> Found
     ensures { IfOk result (λ reason. IfSome reason (IsReason document.entry.bytes.now (Some few))) }
 {
     let schema = document.schema_at(place)?;
-    if !document.kinds(schema).list {
+    if !document.kinds(schema)?.list {
         return Ok(None);
     }
     match least_items(schema) {

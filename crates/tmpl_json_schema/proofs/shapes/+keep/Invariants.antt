@@ -1,9 +1,10 @@
 use Rattle.std.proofs.Common.{◌≡◌, ◌≤◌, ◌+◌, ◌*◌}
 use Rattle.tmpl_shape.specs.View.{shape_of}
 use Rattle.tmpl_shape.specs.computed.Shapes.{gathered}
+use Rattle.tmpl_shape.specs.computed.Meet.{or_shape}
 use Rattle.tmpl_shape.proofs.StepLemmas.{spine}
 use Rattle.tmpl_shape.proofs.ViewLemmas.{amount}
-use Rattle.tmpl_json_schema.specs.computed.Reading.{keep_kinds, or_shape}
+use Rattle.tmpl_json_schema.specs.computed.Reading.{keep_kinds}
 use Rattle.tmpl_json_schema.proofs.shapes.+keep.Given as goal
 
 abbrev pub decreases-kept : goal.decreases-kept
