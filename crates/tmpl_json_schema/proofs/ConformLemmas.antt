@@ -22,6 +22,7 @@ use Rattle.tmpl_values.specs.Value.{Value, sequence, mapping, item, Entries, no_
 use Rattle.tmpl_values.specs.Field.{entry_at}
 use Rattle.tmpl_values.specs.Json.{tree_value, tree_items, tree_entries}
 use Rattle.tmpl_shape.specs.Shape.{EachItem, EachEntry, AreDistinct}
+use Rattle.tmpl_shape.proofs.ShapeLemmas.{bytes-turned}
 use Rattle.tmpl_json_schema.specs.Document.{IsInstance, IsOfType, HasKeys, EachKey, FitsProperty, FitsProperties, FitsAdditional, FitsItems, ConformsBy, base_of, conforms_in, of_each}
 use Rattle.tmpl_json_schema.specs.computed.Inferred.{items_among, items_of_list, values_among, EachValue, Fits, room, AddsItems, AddsOthers, ArePropertiesOf, AreSharedBy, AreTold, AddsProperties}
 
@@ -127,18 +128,10 @@ module _ (C : Data → Value → Type 0) where
 
 -- ---- entries
 
-bytes_eq-sym : (k l : List ℕ) → bytes_eq k l ≡ true → bytes_eq l k ≡ true
-bytes_eq-sym k l e = (bytes_eq-Decides l k).1 (sym ((bytes_eq-Decides k l).0 e))
-
 -- what an object has under a key, and the entry of that key in its value
 abbrev pub AreAlike : List ℕ → Option Data → Option Value → Type 0
 AreAlike k None found = found ≡ None
 AreAlike k (Some d) found = (w : Value) × (tree_value d ≡ Some w) × (found ≡ Some w)
-
-bytes_eq-swap : (k l : List ℕ) (b c : Bool) → bytes_eq k l ≡ b → bytes_eq l k ≡ c → b ≡ c
-bytes_eq-swap k l true c p q = sym (bytes_eq-sym k l p) ∙ q
-bytes_eq-swap k l false true p q = sym p ∙ bytes_eq-sym l k q
-bytes_eq-swap k l false false p q = refl
 
 alike-more : (k l : List ℕ) (o : Ordering) (d : Data) (w : Value) (found : Option Data) (rest : Option Value) → is_eq o ≡ bytes_eq l k
     → tree_value d ≡ Some w → AreAlike k found rest → AreAlike k (match_ordering o found (Some d) found) (if bytes_eq l k then Some w else rest)
@@ -151,7 +144,7 @@ alike k no_members = refl
 alike k (member l d ms) = chained _ (λ v. option_map (entry l v) (tree_entries ms)) (tree_value d) (if-all (λ w. tree_value d ≡ Some w) (tree_value d) (λ w is. is)) (λ w is.
     mapped _ (entry l w) (tree_entries ms) (alike k ms) (λ es h.
     alike-more k l (slice_cmp nat_cmp k l) d w (get_member k ms) (entry_at k es)
-    (is_eq-slice_cmp k l ∙ bytes_eq-swap k l _ _ refl refl) is h))
+    (is_eq-slice_cmp k l ∙ bytes-turned k l) is h))
 
 -- a fact of each value that is found under a key is one of each entry, where no key comes twice
 each-named : (P : List ℕ → Value → Type 0) (es : Entries) → AreDistinct es → ((k : List ℕ) (w : Value) → entry_at k es ≡ Some w → P k w) → EachEntry P es

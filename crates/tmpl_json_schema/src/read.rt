@@ -91,14 +91,14 @@ pub fn choices_in(schema: &Value) -> Option<&Value>
     }
 }
 
-/// Whether something tells of fields and items, or there are alternatives.
+/// Whether there are keywords of fields and items, or alternatives.
 fn has_start(schema: &Value) -> bool
     ensures { result ≡ has_start (view schema.now) }
 {
     has_content(schema) || choices_in(schema).is_some()
 }
 
-/// Whether something is told of fields, items, alternatives or parts.
+/// Whether there are keywords of fields and items, alternatives, or parts of `allOf`.
 fn tells_more(schema: &Value) -> bool
     ensures { result ≡ tells_more (view schema.now) }
 {
@@ -187,8 +187,8 @@ fn referred_shape(
     Ok(Shape::Named(pointer))
 }
 
-/// The shape of what stands at a pointer, as far as that is looked up. A fault in it is told where it stands, when the
-/// definitions are read.
+/// The shape of what stands at a pointer, as far as that is looked up. A fault in it is
+/// reported where it stands, when the definitions are read.
 #[cycle(read)]
 fn look_up(reader: &Reader<'_>, steps: usize, pointer: &[u8]) -> Read
     ensures { IfOk result (λ s. look_by reader.now steps pointer.now ≡ Some (shape_of s)) }
@@ -274,7 +274,7 @@ fn with_parts(
     Ok(kept(reader.alloc, kinds, shape)?)
 }
 
-/// The shape that the parts of `allOf` share, where nothing else is told. One part alone is no more looked up than elsewhere.
+/// The shape that the parts of `allOf` share, where nothing stands beside them. A reference that is the only part stays one.
 #[cycle(read)]
 fn joint_shape(reader: &Reader<'_>, steps: usize, parts: &Value) -> Read
     ensures { IfOk result (λ s. joint_shape (context_of reader.now) (read_by reader.now steps) (part_by reader.now steps)

@@ -396,7 +396,7 @@ fn schema_in(
         },
         alloc,
     };
-    // A fault in a definition is told where it stands, and not where a part of `allOf` refers to it.
+    // So a fault in a definition is reported where it stands, and not where a part of `allOf` refers to it.
     definitions_of(&reader)?;
     let reader = Reader {
         lookups: LOOKUPS,

@@ -11,13 +11,13 @@ use Rattle.tmpl_syntax.specs.declared.tree.ControlNode.{ControlNode, out-Control
 use Rattle.tmpl_meaning.specs.declared.missing_key.MissingKey.{MissingKey}
 use Rattle.tmpl_shape.specs.Shape.{Shape}
 use Rattle.tmpl_shape.specs.computed.Shapes.{Base, Visit, visit_of}
-use Rattle.tmpl_schema.specs.computed.Check.{Known, State, Table, after_both, after_parts, after_node, after_nodes, way_past, holds_loop, in_body, in_other, settle_soon, pipeline_shape}
+use Rattle.tmpl_schema.specs.computed.Check.{Known, State, Table, after_both, after_parts, after_node, after_nodes, fall_through, holds_loop, in_body, in_other, settle_soon, pipeline_shape}
 use Rattle.tmpl_schema.specs.computed.View.{after_choice_by, after_range_by, ranged_by, turn_by}
 
 module _ (base : Base) (m : MissingKey) (table : Table) (loop : Option Known) (h : Header) (k : State) (body other : Nodes) where
   pub choice-after : (c : Control) (s : Shape) (one two ks : Known) → after_nodes base m table loop (in_body base c h k s) body ≡ Some one
       → after_nodes base m table loop (in_other base h k s) other ≡ Some two
-      → after_parts base (way_past table body other) k.env one two ≡ Some ks → after_choice_by base m table loop c h k body other s ≡ Some ks
+      → after_parts base (fall_through table body other) k.env one two ≡ Some ks → after_choice_by base m table loop c h k body other s ≡ Some ks
   choice-after c s one two ks a b e = rw (a, b) e
 
   pub range-is : (v : Visit) (head two : Known) → settle_soon base (turn_by base m table h v body) k.env ≡ Some head

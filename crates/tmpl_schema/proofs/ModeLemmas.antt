@@ -34,8 +34,8 @@ use Rattle.tmpl_schema.specs.computed.Check.{sliced_shape, printed_shape, comman
 use Rattle.tmpl_schema.specs.computed.Check.{all_within, join_all, after_both, settle_known, settle_soon}
 use Rattle.tmpl_schema.specs.computed.Check.{leave_with, holds_loop, turn_known, in_body, in_other, at_start, is_safe}
 use Rattle.tmpl_schema.specs.computed.Check.{after_choice, after_range, after_control, after_call}
-use Rattle.tmpl_schema.specs.computed.Check.{after_node, after_nodes, after_parts, dot_after, way_past}
-use Rattle.tmpl_schema.specs.declared.way.Way.{Way}
+use Rattle.tmpl_schema.specs.computed.Check.{after_node, after_nodes, after_parts, dot_after, fall_through}
+use Rattle.tmpl_schema.specs.declared.flow.FallThrough.{FallThrough}
 use Rattle.tmpl_schema.specs.computed.Safe.{IsAccepted, IsCallee, IsChecked, mode_for}
 
 -- what the first gives the second gives too
@@ -199,7 +199,7 @@ module _ (base : Base) where
   soon-keeps f g h ks = settle-keeps 12 f g h ks
 
   module _ (h : Header) (k : State) where
-    choice-keeps : (w : Way) (c : Control) (f g other rest : Checked) → KeepsEach f g → KeepsEach other rest → (s : Shape)
+    choice-keeps : (w : FallThrough) (c : Control) (f g other rest : Checked) → KeepsEach f g → KeepsEach other rest → (s : Shape)
         → Keeps (after_choice base w c h k f other s) (after_choice base w c h k g rest s)
     choice-keeps w c f g other rest in_f in_rest s =
         then-keeps _ _ _ _ (λ a. then-keeps _ _ _ _ (λ b. keeps-same (after_parts base w k.env a b))
@@ -211,7 +211,7 @@ module _ (base : Base) where
         then-keeps _ _ _ _ (λ a. then-keeps _ _ _ _ (λ b. keeps-same (after_both base k.env a b)) (in_rest k))
         (soon-keeps (turn_known h v f) (turn_known h v g) (λ ks. map-keeps _ _ _ (in_f (Some ks) _)) k.env)
 
-    control-keeps : (w : Way) (c : Control) (loop : Option Known) (f g : Option Known → Checked) (other rest : Checked)
+    control-keeps : (w : FallThrough) (c : Control) (loop : Option Known) (f g : Option Known → Checked) (other rest : Checked)
         → ((l : Option Known) → KeepsEach (f l) (g l)) → KeepsEach other rest → (s : Shape)
         → Keeps (after_control base w c loop h k f other s) (after_control base w c loop h k g rest s)
     control-keeps w control.Range loop f g other rest in_f in_rest s =
@@ -243,7 +243,7 @@ module _ (base : Base) (m : MissingKey) (table : Table) where
     node-keeps (control_node c h body other) loop k =
         if-keeps (holds_loop loop k.env) _ _ None None
         (then-keeps _ _ _ _
-        (control-keeps base h k (way_past table body other) c loop _ _ _ _ (λ l u. nodes-keep body l u) (λ u. nodes-keep other loop u))
+        (control-keeps base h k (fall_through table body other) c loop _ _ _ _ (λ l u. nodes-keep body l u) (λ u. nodes-keep other loop u))
         (pipeline-keeps base m h.pipeline k)) tt
     node-keeps break_node loop k = keeps-same (leave_with base k.env loop)
     node-keeps continue_node loop k = keeps-same (leave_with base k.env loop)

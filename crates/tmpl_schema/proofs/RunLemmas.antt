@@ -26,9 +26,9 @@ use Rattle.tmpl_shape.specs.computed.Means.{Means}
 use Rattle.tmpl_shape.specs.computed.Shapes.{Base, within, fill, Visit, visit_of}
 use Rattle.tmpl_schema.specs.computed.Check.{Known, State, Callee, handed, absent, Table, Checked, last_of, all_within, join_all, if_within, after_both, settle_known, settle_soon, leave_with}
 use Rattle.tmpl_schema.specs.computed.Check.{holds_loop, dot_in, in_body, in_other, after_choice, in_turn, turn_known, after_range, after_call, after_control, after_node, after_nodes}
-use Rattle.tmpl_schema.specs.declared.way.Way.{Way}
-use Rattle.tmpl_schema.specs.declared.way.Way.TheVariants.{Both, Body, Other}
-use Rattle.tmpl_schema.specs.computed.Check.{after_parts, dot_after, dot_by, is_absent, is_leaving, some_leaving, way_past}
+use Rattle.tmpl_schema.specs.declared.flow.FallThrough.{FallThrough}
+use Rattle.tmpl_schema.specs.declared.flow.FallThrough.TheVariants.{Both, Body, Other}
+use Rattle.tmpl_schema.specs.computed.Check.{after_parts, dot_after, dot_by, is_absent, diverges, any_diverges, fall_through}
 use Rattle.tmpl_schema.specs.computed.Check.{Origin, pipeline_origin, pipeline_shape, narrow, bound_shapes, at_start, is_safe}
 use Rattle.tmpl_schema.specs.computed.Safe.{IsAccepted, IsCallee, IsChecked}
 use Rattle.tmpl_loops.specs.Form.{Loop, Turn, stopped, turn_of}
@@ -146,27 +146,27 @@ module _ (base : Base) (N : Names) (means : Means base.defs N) (stops : List (Li
   dot-from _ o p v d h g = g
 
   -- a part that a run never comes past, of those of which it may come past some
-  abbrev NeverPast : Way → (Value → Next) → (Value → Next) → Type 0
+  abbrev NeverPast : FallThrough → (Value → Next) → (Value → Next) → Type 0
   NeverPast Both body other = Unit {0}
   NeverPast Body body other = (d : Value) (r : Run) → (other d r).1 ≡ done → ⊥
   NeverPast Other body other = (d : Value) (r : Run) → (body d r).1 ≡ done → ⊥
 
   -- .. so the variables after both are those after the one that was run
-  body-known : (w : Way) (rs a b out : Known) → after_parts base w rs a b ≡ Some out → (body other : Value → Next) → NeverPast w body other
+  body-known : (w : FallThrough) (rs a b out : Known) → after_parts base w rs a b ≡ Some out → (body other : Value → Next) → NeverPast w body other
       → (d : Value) (r : Run) → (body d r).1 ≡ done → (env : Environment) → (HasKnown base N means top) (last_of (length rs) a) env → (HasKnown base N means top) out env
   body-known Both rs a b out joint body other never d r is = ((both-known base N means top) rs a b out joint).0
   body-known Body rs a b out joint body other never d r is =
       λ env h. let same : last_of (length rs) a ≡ out = cc in subst (λ (x : Known). (HasKnown base N means top) x env) same h
   body-known Other rs a b out joint body other never d r is = absurd (never d r is)
 
-  other-known : (w : Way) (rs a b out : Known) → after_parts base w rs a b ≡ Some out → (body other : Value → Next) → NeverPast w body other
+  other-known : (w : FallThrough) (rs a b out : Known) → after_parts base w rs a b ≡ Some out → (body other : Value → Next) → NeverPast w body other
       → (d : Value) (r : Run) → (other d r).1 ≡ done → (env : Environment) → (HasKnown base N means top) (last_of (length rs) b) env → (HasKnown base N means top) out env
   other-known Both rs a b out joint body other never d r is = ((both-known base N means top) rs a b out joint).1
   other-known Body rs a b out joint body other never d r is = absurd (never d r is)
   other-known Other rs a b out joint body other never d r is =
       λ env h. let same : last_of (length rs) b ≡ out = cc in subst (λ (x : Known). (HasKnown base N means top) x env) same h
 
-  choice-ends : (w : Way) (c : Control) (h : Header) (k : State) (loop : Option Known) (f g : Checked) (body other : Value → Next) (sh : Shape) (out : Known)
+  choice-ends : (w : FallThrough) (c : Control) (h : Header) (k : State) (loop : Option Known) (f g : Checked) (body other : Value → Next) (sh : Shape) (out : Known)
       → after_choice base w c h k f g sh ≡ Some out → holds_loop loop k.env ≡ true → PartHas loop f body → PartHas loop g other → NeverPast w body other
       → (m : MissingKey) (d : Value) (r : Run) → (Fits base N means top) k d r.env → (v : Value) (made : Bool) → (commands_value ((place base N means top) m d r.env) h.pipeline None).result ≡ Ok v
       → HasShape N sh v
@@ -306,7 +306,7 @@ module _ (base : Base) (N : Names) (means : Means base.defs N) (stops : List (Li
           mapped (Some x) t y e = (x, refl, cc)
 
   -- a control in its scope
-  control-ends : (w : Way) (s : Setting) (line : ℕ) (c : Control) (h : Header) (k : State) (loop : Option Known) (f : Option Known → Checked) (g : Checked) (body other : Value → Next)
+  control-ends : (w : FallThrough) (s : Setting) (line : ℕ) (c : Control) (h : Header) (k : State) (loop : Option Known) (f : Option Known → Checked) (g : Checked) (body other : Value → Next)
       (sh : Shape) (out : Known) → after_control base w c loop h k f g sh ≡ Some out → holds_loop loop k.env ≡ true → ((l : Option Known) → PartHas l (f l) body)
       → PartHas loop g other → NeverPast w body other → (d : Value) (r : Run) → (Fits base N means top) k d r.env → (v : Value) (made : Bool)
       → (commands_value ((place base N means top) s.rules.missing_key d r.env) h.pipeline None).result ≡ Ok v → HasShape N sh v
@@ -414,7 +414,7 @@ module _ (base : Base) (N : Names) (means : Means base.defs N) (stops : List (Li
         by None t e = cc
         by (Some c) t e = fault-past (s.calls name) c (calls name c t) e line go r is
 
-    node-past : (n : NodeKind) → is_leaving table n ≡ true → (line : ℕ) (d : Value) (r : Run) → (stepped s line n d r).1 ≡ done → ⊥
+    node-past : (n : NodeKind) → diverges table n ≡ true → (line : ℕ) (d : Value) (r : Run) → (stepped s line n d r).1 ≡ done → ⊥
     node-past break_node e line d r is = cc
     node-past continue_node e line d r is = cc
     node-past (template_node name given) e line d r is = absent-past name e line (handing s line given d) r is
@@ -436,29 +436,29 @@ module _ (base : Base) (N : Names) (means : Means base.defs N) (stops : List (Li
     end-past broke q go e = cc
     end-past continued q go e = cc
 
-    some-past : (ns : Nodes) → some_leaving table ns ≡ true → (d : Value) (r : Run) → (meanings s ns d r).1 ≡ done → ⊥
+    some-past : (ns : Nodes) → any_diverges table ns ≡ true → (d : Value) (r : Run) → (meanings s ns d r).1 ≡ done → ⊥
     some-past tree.none e d r is = cc
     some-past (tree.then line n ns) e d r is =
         let x = spend s line (stepped s line n d) r in
         let p = end-past x.1 x.0 (meanings s ns d) is in
-        by (is_leaving table n) refl e p.0 (λ more. some-past ns more d x.0 p.1)
+        by (diverges table n) refl e p.0 (λ more. some-past ns more d x.0 p.1)
       where
-        by : (b : Bool) → is_leaving table n ≡ b → (b || some_leaving table ns) ≡ true → (spend s line (stepped s line n d) r).1 ≡ done
-            → (some_leaving table ns ≡ true → ⊥) → ⊥
+        by : (b : Bool) → diverges table n ≡ b → (b || any_diverges table ns) ≡ true → (spend s line (stepped s line n d) r).1 ≡ done
+            → (any_diverges table ns ≡ true → ⊥) → ⊥
         by true l e is rest = spend-past ⊥ line (stepped s line n d) r (λ left. node-past n l line d (record r { left = left })) is
         by false l e is rest = rest e
 
-    never-past : (body other : Nodes) → NeverPast (way_past table body other) (meanings s body) (meanings s other)
-    never-past body other = by (some_leaving table body) refl (some_leaving table other) refl
+    never-past : (body other : Nodes) → NeverPast (fall_through table body other) (meanings s body) (meanings s other)
+    never-past body other = by (any_diverges table body) refl (any_diverges table other) refl
       where
-        by : (a : Bool) → some_leaving table body ≡ a → (b : Bool) → some_leaving table other ≡ b
+        by : (a : Bool) → any_diverges table body ≡ a → (b : Bool) → any_diverges table other ≡ b
             → NeverPast (if a then Other else if b then Body else Both) (meanings s body) (meanings s other)
         by true e b f = λ d r. some-past body e d r
         by false e true f = λ d r. some-past other f d r
         by false e false f = tt
 
     -- where a choice is done, dot is what its pipeline shows by the part that was run
-    choice-dot : (w : Way) (c : Control) (h : Header) (k : State) (body other : Value → Next) → NeverPast w body other
+    choice-dot : (w : FallThrough) (c : Control) (h : Header) (k : State) (body other : Value → Next) → NeverPast w body other
         → (d : Value) (r : Run) → (Fits base N means top) k d r.env → (v : Value) (made : Bool)
         → (commands_value ((place base N means top) s.rules.missing_key d r.env) h.pipeline None).result ≡ Ok v
         → (one_of (truth v) (body (dot_value c v d)) (other d) (with_bound h.binding (without_key v) (record r { made_text = made }))).1 ≡ done
@@ -468,7 +468,7 @@ module _ (base : Base) (N : Names) (means : Means base.defs N) (stops : List (Li
         q : Run
         q = with_bound h.binding (without_key v) (record r { made_text = made })
 
-        by : (w : Way) (t : Bool) → truth v ≡ t → NeverPast w body other → (one_of t (body (dot_value c v d)) (other d) q).1 ≡ done → HasShape N (dot_by base w h.pipeline k) d
+        by : (w : FallThrough) (t : Bool) → truth v ≡ t → NeverPast w body other → (one_of t (body (dot_value c v d)) (other d) q).1 ≡ done → HasShape N (dot_by base w h.pipeline k) d
         by Both t e never is = fits.0
         by Body true e never is = ((narrow-fits base N means top) true s.rules.missing_key h.pipeline k d r.env v fits value e).0
         by Body false e never is = absurd (never d q is)
@@ -495,9 +495,9 @@ module _ (base : Base) (N : Names) (means : Means base.defs N) (stops : List (Li
             → HasShape N (dot_after base table k (control_node c h body other)) d
         by control.Range v made value is = fits.0
         by control.If v made value is =
-            choice-dot (way_past table body other) control.If h k (meanings s body) (meanings s other) (never-past body other) d r fits v made value is
+            choice-dot (fall_through table body other) control.If h k (meanings s body) (meanings s other) (never-past body other) d r fits v made value is
         by control.With v made value is =
-            choice-dot (way_past table body other) control.With h k (meanings s body) (meanings s other) (never-past body other) d r fits v made value is
+            choice-dot (fall_through table body other) control.With h k (meanings s body) (meanings s other) (never-past body other) d r fits v made value is
 
     mutual
       stepped-ends : (n : NodeKind) (line : ℕ) (loop : Option Known) → PartHas loop (λ k. after_node base s.rules.missing_key table loop k n) (stepped s line n)
@@ -514,7 +514,7 @@ module _ (base : Base) (N : Names) (means : Means base.defs N) (stops : List (Li
           let f : Option Known → Checked = λ l u. after_nodes base m table l u body in
           let g : Checked = λ u. after_nodes base m table loop u other in
           let p = was_open (holds_loop loop k.env) _ out is in
-          let w = way_past table body other in
+          let w = fall_through table body other in
           option_and_then_some (after_control base w c loop h k f g) (pipeline_shape base m k h.pipeline) out p.1 (λ sh issh rest.
           pipeline-all (λ x. Ends loop out (scoped (length r.env) x)) s line h.pipeline d
           (controlled s line c h.binding d (meanings s body) (meanings s other d)) k sh r fits issh

@@ -5,7 +5,6 @@ use Rattle.std.proofs.lemmas.Bool.{false≢true, and_parts, eqb-true, ltb-true, 
 use Rattle.std.proofs.lemmas.Bool.Decides.{Decides-int_eq}
 use Rattle.std.specs.Ordering.{int_eq}
 use Rattle.std.proofs.lemmas.Option.{cond_some}
-use Rattle.std.proofs.lemmas.Slice.Eq.{bytes_eq-Decides}
 use Rattle.std.specs.Option.{option_map, option_map_or, option_and_then}
 use Rattle.std.specs.List.{find}
 use Rattle.std.specs.Str.{bytes_eq}
@@ -44,7 +43,7 @@ use Rattle.tmpl_schema.proofs.OriginLemmas.{HasOrigin, IsAt, at-chain, at-gone, 
 use Rattle.tmpl_schema.specs.computed.Check.{Known, State, variable_shape, assigned_shape, bound_shapes, refine_variable, all_within, is_split, join_all, join_origins, join_parts, join_to, last_of, if_within}
 use Rattle.tmpl_schema.specs.computed.Check.{after_both, entry_along, entry_by, operand_shape, indexed_shape, printed_shape, command_shape, pipeline_shape, narrow}
 use Rattle.tmpl_shape.proofs.KindLemmas.{has_kind-has}
-use Rattle.tmpl_shape.proofs.ShapeLemmas.{same_name, within-has, join-left, join-right, null_gone-has}
+use Rattle.tmpl_shape.proofs.ShapeLemmas.{bytes-turned, same_name, within-has, join-left, join-right, null_gone-has}
 use Rattle.tmpl_shape.proofs.FormatLemmas.{printf-gives}
 use Rattle.tmpl_shape.proofs.FieldLemmas.{Ends, Gives, Passes, Shows, any-has, at-entry, both-left, both-right, entry-gives, chain-gives, fill-has, full-thing, only-there, refine-has}
 use Rattle.tmpl_shape.proofs.PartLemmas.{item-at, part-gives, part_told}
@@ -77,16 +76,6 @@ full-number (suc i) t = omega arith
 
 abbrev compare_told : Func → Option Bool → Result Value Cause
 compare_told f o = result_map_both (λ v. v) (call_failed f) (comparison_answer o)
-
--- a string equals what equals it
-bytes-turned : (s t : List ℕ) → bytes_eq s t ≡ bytes_eq t s
-bytes-turned s t = by (bytes_eq s t) refl (bytes_eq t s) refl
-  where
-    by : (a : Bool) → bytes_eq s t ≡ a → (b : Bool) → bytes_eq t s ≡ b → a ≡ b
-    by true p true q = refl
-    by true p false q = sym ((bytes_eq-Decides t s).1 (sym ((bytes_eq-Decides s t).0 p))) ∙ q
-    by false p true q = sym p ∙ (bytes_eq-Decides s t).1 (sym ((bytes_eq-Decides t s).0 q))
-    by false p false q = refl
 
 equality-turned : (s : List ℕ) (w : Value) → equality (string s) w ≡ equality w (string s)
 equality-turned s nothing = refl

@@ -11,8 +11,8 @@ ghost use Rattle.tmpl_shape.specs.computed.Shapes.{join};
 ghost use Rattle.tmpl_shape.specs.computed.View.{base_of, shape_seen, test_seen};
 ghost use Rattle.tmpl_schema.specs.computed.View.{is_longer, known_of, known_seen, origin_of};
 
+use crate::flow::FallThrough;
 use crate::origin::{copy_origin, join_origins, origin_within, rest_of};
-use crate::way::Way;
 use std::alloc::{AllocError, Global};
 use std::rc::Rc;
 use tmpl_grammar::Binding;
@@ -430,18 +430,18 @@ pub(crate) fn after_both(
 /// The variables that were there before, after two parts of which a run may come past these.
 pub(crate) fn after_parts(
     base: &Base<'_>,
-    way: Way,
+    through: FallThrough,
     before: &Known,
     one: &Known,
     other: &Known,
 ) -> Result<Known, Trouble>
-    ensures { IfOk result (λ ks. after_parts (base_of base.now) way (known_of before.now) (known_of one.now)
+    ensures { IfOk result (λ ks. after_parts (base_of base.now) through (known_of before.now) (known_of one.now)
         (known_of other.now) ≡ Some (known_of ks)) }
 {
-    match way {
-        Way::Both => after_both(base, before, one, other),
-        Way::Body => Ok(copy_known(oldest(one, before))?),
-        Way::Other => Ok(copy_known(oldest(other, before))?),
+    match through {
+        FallThrough::Both => after_both(base, before, one, other),
+        FallThrough::Body => Ok(copy_known(oldest(one, before))?),
+        FallThrough::Other => Ok(copy_known(oldest(other, before))?),
     }
 }
 

@@ -4,6 +4,7 @@
 mod check;
 mod facts;
 mod failure;
+mod flow;
 mod known;
 mod laws;
 mod loops;
@@ -14,7 +15,6 @@ mod room;
 mod state;
 mod survey;
 mod table;
-mod way;
 
 pub use check::{Refusal, check_schema};
 pub use failure::Doubt;

@@ -14,6 +14,7 @@ ghost use Rattle.tmpl_syntax.specs.Tree.{template_node};
 ghost use Rattle.tmpl_syntax.specs.View.{control_of, node_of, nodes_in};
 
 use crate::failure::{Failure, at_node};
+use crate::flow::{dot_after, fall_through};
 use crate::known::{
     Known, after_both, after_parts, all_within, bind, copy_known, holds_loop, join_all, leave_with,
     oldest,
@@ -21,7 +22,6 @@ use crate::known::{
 use crate::pipeline::pipeline_shape;
 use crate::state::{State, copy_state, narrow, pipeline_origin};
 use crate::table::{Call, Callee, Entry, find_callee};
-use crate::way::{dot_after, way_past};
 use std::alloc::{AllocError, Global};
 use std::rc::Rc;
 use tmpl_grammar::{Control, Header, Pipeline};
@@ -258,8 +258,8 @@ fn after_choice(
     let one = after_nodes(checker, head, inside, parts.body)?;
     let outside = in_other(&checker.base, parts.header, state, shape)?;
     let other = after_nodes(checker, head, outside, parts.other)?;
-    let way = way_past(checker, parts.body, parts.other);
-    Ok(after_parts(&checker.base, way, &state.known, &one, &other)?)
+    let through = fall_through(checker, parts.body, parts.other);
+    Ok(after_parts(&checker.base, through, &state.known, &one, &other)?)
 }
 
 /// After a turn of a range.

@@ -5,6 +5,7 @@
 
 use crate::check::{Refusal, is_stop, mode_for};
 use crate::failure::{Doubt, Failure, Position};
+use crate::flow::{FallThrough, dot_after, fall_through};
 use crate::known::{Known, after_parts, bind, copy_known};
 use crate::loops::check_loop;
 use crate::node::{Checker, after_node, in_body, in_other, in_turn, settle_soon};
@@ -12,7 +13,6 @@ use crate::pipeline::pipeline_shape;
 use crate::room::first_crowded;
 use crate::state::{State, at_start, copy_state};
 use crate::table::{Call, Callee, Entry};
-use crate::way::{Way, dot_after, way_past};
 use std::alloc::{AllocError, Global};
 use std::mem;
 use tmpl_meaning::MissingKey;
@@ -249,25 +249,25 @@ fn survey_choice(
     let one = survey_nodes(walk, head, inside, control.body.as_slice(), found)?;
     let outside = in_other(base, &control.header, state, shape)?;
     let other = survey_nodes(walk, head, outside, control.other.as_slice(), found)?;
-    let way = way_past(
+    let through = fall_through(
         walk.checker,
         control.body.as_slice(),
         control.other.as_slice(),
     );
-    survey_end(walk, way, state, &one, &other, position, found)
+    survey_end(walk, through, state, &one, &other, position, found)
 }
 
 /// What is known after two parts of which a run may come past these.
 fn survey_end(
     walk: &Walk<'_>,
-    way: Way,
+    through: FallThrough,
     state: &State,
     one: &Known,
     other: &Known,
     position: Position,
     found: &mut Found,
 ) -> Result<Known, AllocError> {
-    match after_parts(&walk.checker.base, way, &state.known, one, other) {
+    match after_parts(&walk.checker.base, through, &state.known, one, other) {
         Ok(known) => Ok(known),
         Err(failure) => {
             found.add(walk, failure.into(), position)?;
@@ -325,7 +325,15 @@ fn survey_range(
     };
     let outside = copy_state(checker.base.alloc, state)?;
     let other = survey_nodes(walk, head, outside, control.other.as_slice(), found)?;
-    survey_end(walk, Way::Both, state, &known, &other, position, found)
+    survey_end(
+        walk,
+        FallThrough::Both,
+        state,
+        &known,
+        &other,
+        position,
+        found,
+    )
 }
 
 /// Whether a template is a copy loop over texts; of one that calls what is neither there nor a stop, that is reported.

@@ -1,5 +1,5 @@
 -- For code that meets shapes: what is computed for what a loop or a last arm takes; and that it has the values of both.
-use Rattle.std.proofs.Common.{rules, ◌≡◌, ◌∙◌, ◌-◌, ◌≤◌, max, length, ℕ, zero, suc, Bool, true, false, Option, Some, None, List, Box, Global, inl, inr, refl, ap, sym, subst, arith, if◌then◌else◌}
+use Rattle.std.proofs.Common.{rules, ◌≡◌, ◌∙◌, ◌-◌, ℕ, zero, suc, Bool, true, false, Option, Some, None, List, Box, Global, inl, inr, refl, ap, sym, subst, arith, if◌then◌else◌}
 use Rattle.std.proofs.Math.Nat.{max-le}
 use Rattle.std.specs.Option.{option_map_or}
 use Rattle.std.specs.Str.{bytes_eq}
@@ -8,7 +8,7 @@ use Rattle.std.proofs.lemmas.Slice.Eq.{bytes_eq-Decides}
 use Rattle.tmpl_values.specs.Value.{Value, nothing, null, boolean, number, string, sequence, mapping, Items, no_item, item, Entries, no_entry, entry}
 use Rattle.tmpl_shape.specs.Shape as spec
 use Rattle.tmpl_shape.specs.Shape.{Shape, Names, Fields, no_field, others, field, EachItem, EachEntry, HasRequired, HasShape, IsField}
-use Rattle.tmpl_shape.specs.View.{fields_of, shape_of}
+use Rattle.tmpl_shape.specs.View.{shape_of}
 use Rattle.tmpl_shape.specs.computed.Meet.{each_part, is_first_open, is_open, leaf_within, meet, meet_forms, meet_leaf, meet_one, rest_shape, with_met, with_unlisted}
 use Rattle.tmpl_shape.specs.computed.Meet.{meet_fields, meet_rest, or_shape}
 use Rattle.tmpl_shape.specs.computed.Shapes.{is_listed, is_never, is_required, shape_at}
@@ -17,7 +17,7 @@ use Rattle.tmpl_shape.specs.declared.shape.Shape as held
 use Rattle.tmpl_shape.specs.declared.shape.Shape.{the_lemmas}
 use Rattle.tmpl_shape.specs.declared.shape.Fields as held_fields
 use Rattle.tmpl_shape.proofs.StepLemmas.{IsEnd}
-use Rattle.tmpl_shape.proofs.LeafLemmas.{box, NotEither, NotExactly, NotList, NotNamed, NotRecord, is-end}
+use Rattle.tmpl_shape.proofs.LeafLemmas.{box, NotEither, NotExactly, NotList, NotNamed, NotRecord}
 use Rattle.tmpl_shape.proofs.ViewLemmas.{list_seen, record_seen, either_seen, named_seen, never_seen, nothings_seen, nulls_seen, truths_seen, numbers_seen, texts_seen, exactly_seen, anything_seen}
 
 -- a step is left

@@ -30,6 +30,16 @@ neither false c e = (refl, e)
 pub same_name : (k n : List ℕ) → bytes_eq k n ≡ true → k ≡ n
 same_name k n e = (bytes_eq-Decides k n).0 e
 
+-- a string equals what equals it
+pub bytes-turned : (s t : List ℕ) → bytes_eq s t ≡ bytes_eq t s
+bytes-turned s t = by (bytes_eq s t) refl (bytes_eq t s) refl
+  where
+    by : (a : Bool) → bytes_eq s t ≡ a → (b : Bool) → bytes_eq t s ≡ b → a ≡ b
+    by true p true q = refl
+    by true p false q = sym ((bytes_eq-Decides t s).1 (sym ((bytes_eq-Decides s t).0 p))) ∙ q
+    by false p true q = sym p ∙ (bytes_eq-Decides s t).1 (sym ((bytes_eq-Decides t s).0 q))
+    by false p false q = refl
+
 pub items-has : (P Q : Value → Type 0) → ((v : Value) → P v → Q v) → (vs : Items) → EachItem P vs → EachItem Q vs
 items-has P Q f no_item h = tt
 items-has P Q f (item v vs) h = (f v h.0, items-has P Q f vs h.1)

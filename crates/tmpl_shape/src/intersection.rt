@@ -1,7 +1,7 @@
 //! The values that two shapes share.
 #![tactic(auto, using(crate::proofs::ViewLemmas::parts, crate::proofs::MeetLemmas::meets))]
 
-ghost use Rattle.std.specs.Prelude.{◌≡◌, IfOk, Option};
+ghost use Rattle.std.specs.Prelude.{◌≡◌, IfOk};
 ghost use Rattle.tmpl_shape.specs.Shape.{Shape as shape};
 ghost use Rattle.tmpl_shape.specs.View.{fields_of, shape_of};
 ghost use Rattle.tmpl_shape.specs.computed.Meet.{each_part, is_first_open, is_open, leaf_within, meet, meet_fields, meet_forms, meet_leaf, meet_one};
@@ -53,7 +53,7 @@ fn is_open(shape: &Shape) -> bool
     matches!(shape, Shape::Anything | Shape::Named(_))
 }
 
-/// Whether of these the second is kept: a definition beside what is told is not followed.
+/// Whether of these the second is kept: a definition beside another shape is not followed.
 fn is_first_open(one: &Shape, other: &Shape) -> bool
     ensures { result ≡ is_first_open (shape_of one.now) (shape_of other.now) }
 {

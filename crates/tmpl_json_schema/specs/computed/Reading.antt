@@ -246,7 +246,7 @@ abbrev pub listed_in : List (List ℕ) → Data → Option (List ℕ)
 listed_in names (json.string r) = option_and_then (if_listed names) (fragment_of r)
 listed_in names d = None
 
--- something tells of fields and items, or there are alternatives
+-- there are keywords of fields and items, or alternatives
 abbrev pub has_start : Data → Bool
 has_start d = has_content d || is_some (choices_in d)
 
@@ -324,7 +324,7 @@ module _ (c : Context) (read part : Data → Option Shape) (look : List ℕ → 
   parts_shape s (json.array ds) = fold part_with s ds
   parts_shape s d = Some s
 
-  -- where nothing else is told: that of the one part, or of all
+  -- where nothing stands beside it: that of the one part, or of all
   abbrev pub joint_shape : Data → Option Shape
   joint_shape (json.array (json.item d no_items)) = read d
   joint_shape d = parts_shape anything d

@@ -21,8 +21,8 @@ use Rattle.tmpl_shape.specs.computed.Shapes.{Base, Test, has_least, is_among, is
 use Rattle.tmpl_shape.specs.computed.Shapes.{Key, of_name, of_text, of_place, index_shape, part_shape, Visit, visit_of}
 use Rattle.tmpl_shape.specs.computed.Calls.{call_shape, shape_by_function}
 use Rattle.tmpl_shape.specs.computed.Formats.{printf_shape}
-use Rattle.tmpl_schema.specs.declared.way.Way.{Way}
-use Rattle.tmpl_schema.specs.declared.way.Way.TheVariants.{Both, Body, Other}
+use Rattle.tmpl_schema.specs.declared.flow.FallThrough.{FallThrough}
+use Rattle.tmpl_schema.specs.declared.flow.FallThrough.TheVariants.{Both, Body, Other}
 
 -- the chain of fields from the data of the template at which a value is, but for nothing and null, where that is known
 abbrev pub Origin : Type 0
@@ -345,20 +345,20 @@ abbrev pub is_absent : Option Callee → Bool
 is_absent (Some absent) = true
 is_absent c = false
 
-abbrev pub is_leaving : Table → NodeKind → Bool
-is_leaving table break_node = true
-is_leaving table continue_node = true
-is_leaving table (template_node name given) = is_absent (table name)
-is_leaving table n = false
+abbrev pub diverges : Table → NodeKind → Bool
+diverges table break_node = true
+diverges table continue_node = true
+diverges table (template_node name given) = is_absent (table name)
+diverges table n = false
 
 -- .. past all of them
-abbrev pub some_leaving : Table → Nodes → Bool
-some_leaving table tree.none = false
-some_leaving table (tree.then line n ns) = is_leaving table n || some_leaving table ns
+abbrev pub any_diverges : Table → Nodes → Bool
+any_diverges table tree.none = false
+any_diverges table (tree.then line n ns) = diverges table n || any_diverges table ns
 
 -- which of the two parts of an `if` or a `with` a run may come past
-abbrev pub way_past : Table → Nodes → Nodes → Way
-way_past table body other = if some_leaving table body then Other else if some_leaving table other then Body else Both
+abbrev pub fall_through : Table → Nodes → Nodes → FallThrough
+fall_through table body other = if any_diverges table body then Other else if any_diverges table other then Body else Both
 
 -- where a turn of a range begins
 abbrev pub in_turn : Header → Visit → Known → State
@@ -616,17 +616,17 @@ module _ (base : Base) where
       let u = narrow false h.pipeline k in record u { env = bound_shapes h.binding nothings s (pipeline_origin k h.pipeline) u.env }
 
   -- .. of which a run may come past these
-  abbrev pub after_parts : Way → Known → Known → Known → Option Known
+  abbrev pub after_parts : FallThrough → Known → Known → Known → Option Known
   after_parts Both rs ks ls = after_both rs ks ls
   after_parts Body rs ks ls = Some (last_of (length rs) ks)
   after_parts Other rs ks ls = Some (last_of (length rs) ls)
 
-  abbrev pub after_choice : Way → Control → Header → State → Checked → Checked → Shape → Option Known
+  abbrev pub after_choice : FallThrough → Control → Header → State → Checked → Checked → Shape → Option Known
   after_choice w c h k body other s =
       option_and_then (λ a. option_and_then (after_parts w k.env a) (other (in_other h k s))) (body (in_body c h k s))
 
   -- what is known of dot after them
-  abbrev pub dot_by : Way → Pipeline → State → Shape
+  abbrev pub dot_by : FallThrough → Pipeline → State → Shape
   dot_by Both p k = k.dot
   dot_by Body p k = (narrow true p k).dot
   dot_by Other p k = (narrow false p k).dot
@@ -634,7 +634,7 @@ module _ (base : Base) where
   -- .. after a node
   abbrev pub dot_after : Table → State → NodeKind → Shape
   dot_after table k (control_node control.Range h body other) = k.dot
-  dot_after table k (control_node c h body other) = dot_by (way_past table body other) h.pipeline k
+  dot_after table k (control_node c h body other) = dot_by (fall_through table body other) h.pipeline k
   dot_after table k n = k.dot
 
   abbrev pub after_range : Header → State → (Option Known → Checked) → Checked → Visit → Option Known
@@ -642,7 +642,7 @@ module _ (base : Base) where
       option_and_then (λ head. option_and_then (after_both k.env head) (other k)) (settle_soon (turn_known h v body) k.env)
 
   abbrev pub after_control :
-      Way → Control → Option Known → Header → State → (Option Known → Checked) → Checked → Shape → Option Known
+      FallThrough → Control → Option Known → Header → State → (Option Known → Checked) → Checked → Shape → Option Known
   after_control w control.Range loop h k body other s =
       option_and_then (after_range h k body other) (visit_of base h.binding s)
   after_control w c loop h k body other s = after_choice w c h k (body loop) other s
@@ -660,7 +660,7 @@ module _ (base : Base) where
         option_map (λ s. bound_shapes h.binding nothings s (pipeline_origin k h.pipeline) k.env) (pipeline_shape m k h.pipeline)
     after_node m table loop k (control_node c h body other) =
         if holds_loop loop k.env then option_and_then
-        (after_control (way_past table body other) c loop h k (λ l u. after_nodes m table l u body) (λ u. after_nodes m table loop u other))
+        (after_control (fall_through table body other) c loop h k (λ l u. after_nodes m table l u body) (λ u. after_nodes m table loop u other))
         (pipeline_shape m k h.pipeline) else None
     after_node m table loop k break_node = leave_with k.env loop
     after_node m table loop k continue_node = leave_with k.env loop

@@ -16,7 +16,7 @@ use Rattle.tmpl_schema.specs.declared.facts.Head.TheVariants as head
 use Rattle.tmpl_schema.specs.declared.facts.Place as held_place
 use Rattle.tmpl_schema.specs.computed.Check.{Fact, Head, calls, is_nil, is_value, Place, texts_in}
 use Rattle.tmpl_schema.specs.computed.Check.{Known, Origin, State, Callee, Table, handed, absent, operand_shapes, after_choice, after_nodes}
-use Rattle.tmpl_schema.specs.computed.Check.{after_range, way_past, bound_shapes, call_state, command_call, counts_in, narrow_all, narrow_as, piped_fact, pipeline_origin, pipeline_shape, turn_known}
+use Rattle.tmpl_schema.specs.computed.Check.{after_range, fall_through, bound_shapes, call_state, command_call, counts_in, narrow_all, narrow_as, piped_fact, pipeline_origin, pipeline_shape, turn_known}
 use Rattle.tmpl_grammar.specs.Tree.{Header}
 use Rattle.tmpl_syntax.specs.Tree.{Nodes}
 use Rattle.tmpl_grammar.specs.declared.tree.Control.{Control}
@@ -113,7 +113,7 @@ turn_by base m table h v body = turn_known h v (λ l u. after_nodes base m table
 abbrev pub after_choice_by :
     computed.Base → MissingKey → Table → Option Known → Control → Header → State → Nodes → Nodes → spec.Shape → Option Known
 after_choice_by base m table loop c h k body other s =
-    after_choice base (way_past table body other) c h k (λ u. after_nodes base m table loop u body) (λ u. after_nodes base m table loop u other) s
+    after_choice base (fall_through table body other) c h k (λ u. after_nodes base m table loop u body) (λ u. after_nodes base m table loop u other) s
 
 abbrev pub after_range_by :
     computed.Base → MissingKey → Table → Option Known → Header → State → Nodes → Nodes → computed.Visit → Option Known

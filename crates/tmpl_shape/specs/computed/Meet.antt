@@ -1,5 +1,5 @@
 -- The shape that is computed for the values which two shapes share.
-use Rattle.std.specs.Prelude.{ℕ, zero, suc, max, Bool, true, false, ◌||◌, List, Option, Some, None, if◌then◌else◌}
+use Rattle.std.specs.Prelude.{ℕ, zero, suc, max, Bool, true, false, ◌||◌, Option, Some, None, if◌then◌else◌}
 use Rattle.std.specs.Option.{option_map_or}
 use Rattle.tmpl_shape.specs.Shape.{Shape, never, nothings, nulls, truths, numbers, texts, exactly, anything, list_of, record_of}
 use Rattle.tmpl_shape.specs.Shape.{either, named, Fields, no_field, others, field}
@@ -22,7 +22,7 @@ is_open anything = true
 is_open (named x) = true
 is_open s = false
 
--- of these the second is kept: a definition beside what is told is not followed
+-- of these the second is kept: a definition beside another shape is not followed
 abbrev pub is_first_open : Shape → Shape → Bool
 is_first_open anything t = true
 is_first_open (named x) anything = false

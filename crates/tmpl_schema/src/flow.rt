@@ -1,11 +1,11 @@
-//! Which part of a control a run may come past.
+//! Which parts of a control fall through.
 #![tactic(auto)]
 
 ghost use Rattle.std.specs.Prelude.{◌≡◌, IfOk};
 ghost use Rattle.tmpl_grammar.specs.View.{commands_in};
 ghost use Rattle.tmpl_shape.specs.View.{shape_of};
 ghost use Rattle.tmpl_shape.specs.computed.View.{base_of};
-ghost use Rattle.tmpl_schema.specs.computed.Check.{dot_after, dot_by, is_absent, is_leaving, some_leaving, way_past};
+ghost use Rattle.tmpl_schema.specs.computed.Check.{dot_after, dot_by, is_absent, diverges, any_diverges, fall_through};
 ghost use Rattle.tmpl_schema.specs.computed.View.{state_of, table_of};
 ghost use Rattle.tmpl_syntax.specs.View.{node_of, nodes_in};
 
@@ -18,9 +18,9 @@ use tmpl_grammar::{Command, Control};
 use tmpl_shape::{Base, Shape};
 use tmpl_syntax::{Node, NodeKind};
 
-/// Which of the two parts of an `if` or a `with` a run may come past.
+/// Which of the two parts of an `if` or a `with` fall through: a run may come past them.
 #[derive(Clone, Copy)]
-pub(crate) enum Way {
+pub(crate) enum FallThrough {
     Both,
     Body,
     Other,
@@ -38,9 +38,9 @@ fn is_absent(checker: &Checker<'_>, name: &[u8]) -> bool
     }
 }
 
-/// Whether a run never comes past the node: it leaves the range, or ends there.
-fn is_leaving(checker: &Checker<'_>, node: &Node) -> bool
-    ensures { result ≡ is_leaving (table_of checker.now.table.now) (node_of node.now).what }
+/// Whether a node diverges: a run never comes past it, since it leaves the range, or ends there.
+fn diverges(checker: &Checker<'_>, node: &Node) -> bool
+    ensures { result ≡ diverges (table_of checker.now.table.now) (node_of node.now).what }
 {
     match &node.what {
         NodeKind::Break => true,
@@ -52,12 +52,12 @@ fn is_leaving(checker: &Checker<'_>, node: &Node) -> bool
     }
 }
 
-/// Whether a run never comes past all of the nodes.
-fn some_leaving(checker: &Checker<'_>, nodes: &[Node]) -> bool
-    ensures { result ≡ some_leaving (table_of checker.now.table.now) (nodes_in nodes.now) }
+/// Whether one of the nodes does.
+fn any_diverges(checker: &Checker<'_>, nodes: &[Node]) -> bool
+    ensures { result ≡ any_diverges (table_of checker.now.table.now) (nodes_in nodes.now) }
 {
     for node in nodes {
-        if is_leaving(checker, node) {
+        if diverges(checker, node) {
             return true;
         }
     }
@@ -65,35 +65,35 @@ fn some_leaving(checker: &Checker<'_>, nodes: &[Node]) -> bool
 }
 
 /// Which of these parts a run may come past.
-pub(crate) fn way_past(checker: &Checker<'_>, body: &[Node], other: &[Node]) -> Way
-    ensures { result ≡ way_past (table_of checker.now.table.now) (nodes_in body.now) (nodes_in other.now) }
+pub(crate) fn fall_through(checker: &Checker<'_>, body: &[Node], other: &[Node]) -> FallThrough
+    ensures { result ≡ fall_through (table_of checker.now.table.now) (nodes_in body.now) (nodes_in other.now) }
 {
-    if some_leaving(checker, body) {
-        return Way::Other;
+    if any_diverges(checker, body) {
+        return FallThrough::Other;
     }
-    if some_leaving(checker, other) {
-        return Way::Body;
+    if any_diverges(checker, other) {
+        return FallThrough::Body;
     }
-    Way::Both
+    FallThrough::Both
 }
 
 /// What is known of dot after an `if` or a `with` of which a run may come past these parts.
 fn dot_by(
     base: &Base<'_>,
-    way: Way,
+    through: FallThrough,
     commands: &[Command],
     state: &State,
 ) -> Result<Rc<Shape>, AllocError>
     ensures { IfOk result (λ dot. shape_of dot.value
-        ≡ dot_by (base_of base.now) way (commands_in commands.now) (state_of state.now)) }
+        ≡ dot_by (base_of base.now) through (commands_in commands.now) (state_of state.now)) }
 {
-    match way {
-        Way::Both => Rc::clone(&state.dot),
-        Way::Body => {
+    match through {
+        FallThrough::Both => Rc::clone(&state.dot),
+        FallThrough::Body => {
             let State { dot, .. } = narrow(base, true, commands, state)?;
             Ok(dot)
         }
-        Way::Other => {
+        FallThrough::Other => {
             let State { dot, .. } = narrow(base, false, commands, state)?;
             Ok(dot)
         }
@@ -113,9 +113,13 @@ pub(crate) fn dot_after(
         NodeKind::Control(control) => match control.control {
             Control::Range => Rc::clone(&state.dot),
             Control::If | Control::With => {
-                let way = way_past(checker, control.body.as_slice(), control.other.as_slice());
+                let through = fall_through(
+                    checker,
+                    control.body.as_slice(),
+                    control.other.as_slice(),
+                );
                 let commands = control.header.pipeline.commands.as_slice();
-                dot_by(&checker.base, way, commands, state)
+                dot_by(&checker.base, through, commands, state)
             }
         },
         NodeKind::Text(_) | NodeKind::Action(_) | NodeKind::Break => Rc::clone(&state.dot),

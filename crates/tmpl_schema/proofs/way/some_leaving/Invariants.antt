@@ -1,9 +1,0 @@
-use Rattle.std.proofs.Common.{◌≡◌, drop}
-use Rattle.tmpl_syntax.specs.View.{nodes_in}
-use Rattle.tmpl_schema.specs.computed.Check.{some_leaving}
-use Rattle.tmpl_schema.specs.computed.View.{table_of}
-use Rattle.tmpl_schema.proofs.way.some_leaving.Given as goal
-
-abbrev pub invariant-loop-node : goal.invariant-loop-node
-invariant-loop-node l =
-    some_leaving (table_of l.checker.table.now) (nodes_in l.nodes) ≡ some_leaving (table_of l.checker.table.now) (nodes_in (drop l.node-index l.nodes))
