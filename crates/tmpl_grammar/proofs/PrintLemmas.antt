@@ -5,7 +5,7 @@ use Rattle.std.proofs.Math.Seq.{take-append_seam}
 use Rattle.std.proofs.lemmas.List.{drop_more, length-take}
 use Rattle.std.proofs.lemmas.List.Concat.{flat_map-append}
 use Rattle.tmpl_lex.specs.Piece.{Token}
-use Rattle.tmpl_grammar.specs.Print.{bytes_of, command_tokens, later_tokens, more_tokens, operand_tokens}
+use Rattle.tmpl_grammar.specs.Print.{bytes_of, chain_tokens, command_tokens, later_tokens, more_tokens, operand_tokens}
 use Rattle.tmpl_grammar.specs.Tree as tree
 use Rattle.tmpl_grammar.specs.Tree.{Operand, Operands, Pipeline}
 use Rattle.tmpl_grammar.specs.View.{commands_in, operand_of, operands_in}
@@ -68,3 +68,9 @@ pub operands_at : (first : Bool) (os : List held_operand.Operand) (i : ℕ) (o :
 operands_at first os i o lt is =
     ap (λ ps. bytes_of (operands_by first (operands_in ps))) (drop_more os i o lt ∙ ap (λ p. p ∷ drop (i + 1) os) (sym is))
     ∙ operands_next first (operand_of o) (operands_in (drop (i + 1) os))
+
+-- .. and so the rest of a chain
+pub chain_at : (names : List (List ℕ)) (i : ℕ) (name : List ℕ) → i < length names → name ≡ get_or names i name
+    → bytes_of (chain_tokens (drop i names)) ≡ codes "." ++ (name ++ bytes_of (chain_tokens (drop (i + 1) names)))
+chain_at names i name lt is =
+    ap (λ ns. bytes_of (chain_tokens ns)) (drop_more names i name lt ∙ ap (λ n. n ∷ drop (i + 1) names) (sym is))
