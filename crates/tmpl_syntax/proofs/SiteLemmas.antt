@@ -1,5 +1,5 @@
 -- For `read_sites`: the sites of a file's pieces, part by part; and each of them is mended as what it was.
-use Rattle.std.proofs.Common.{◌≡◌, ◌∙◌, ℕ, false, List, [], ◌∷◌, map, refl, ap, sym, ◌++◌, ◌+◌, ◌⊎◌, inl, inr, subst, length}
+use Rattle.std.proofs.Common.{◌≡◌, ◌∙◌, ℕ, false, List, [], ◌∷◌, Some, map, refl, ap, sym, ◌++◌, ◌+◌, ◌⊎◌, inl, inr, subst, length}
 use Rattle.tmpl_lex.specs.Piece.{Token, Piece, text, action, unreadable}
 use Rattle.tmpl_lex.specs.computed.Cut.{cut_of}
 use Rattle.tmpl_lex.specs.Cut.{Cuts}
@@ -28,6 +28,7 @@ use Rattle.tmpl_syntax.proofs.RefusalLemmas.{AreSites, StaysSite, StaysBranch, f
 use Rattle.tmpl_grammar.specs.computed.Depth.{Reading, unread, too_deep, read}
 use Rattle.tmpl_grammar.specs.computed.Reading.{reading_in}
 use Rattle.tmpl_syntax.specs.computed.Item.{read_item}
+use Rattle.tmpl_syntax.specs.computed.Parse.{line_in}
 use Rattle.tmpl_syntax.specs.computed.Refusals.{refusals_in, site_in, sites_in}
 
 -- the file's sites are these, and those of what the rest is cut into
@@ -87,15 +88,12 @@ has_sites bytes = (cut_of bytes, cut_of-Cuts bytes, zip-sites (cut_of bytes))
 abbrev kind_of : Item → ItemKind
 kind_of (item line what) = what
 
-abbrev line_of : Item → ℕ
-line_of (item line what) = line
-
-role-same : (p : Piece) → (site_in p).role ≡ role_of (item_in p)
+pub role-same : (p : Piece) → (site_in p).role ≡ role_of (item_in p)
 role-same (text line bytes) = refl
 role-same (action line ts) = refl
 role-same (unreadable line) = refl
 
-line-same : (p : Piece) → (site_in p).line ≡ line_of (item_in p)
+pub line-same : (p : Piece) → (site_in p).line ≡ line_in (Some (item_in p))
 line-same (text line bytes) = refl
 line-same (action line ts) = refl
 line-same (unreadable line) = refl
@@ -112,7 +110,7 @@ site-eq x y e f g = ap (λ n. record { line = n; role = x.role; mended = x.mende
 only-site : (p : Piece) (x : Site) → IsSite p x → x ≡ site_in p
 only-site p x (what, is, r, m) =
     let e : item x.line what ≡ item_in p = only-item every_action is ∙ for-every p in
-    site-eq x (site_in p) (ap line_of e ∙ sym (line-same p)) (r ∙ ap role_of e ∙ sym (role-same p))
+    site-eq x (site_in p) (ap (λ y. line_in (Some y)) e ∙ sym (line-same p)) (r ∙ ap role_of e ∙ sym (role-same p))
     (m ∙ ap (λ y. mended_in (kind_of y) p) e ∙ sym (mended-same p))
 
 only-sites : (ps : List Piece) (xs : List Site) → AllZip IsSite ps xs → xs ≡ sites_in ps
