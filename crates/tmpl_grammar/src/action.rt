@@ -9,7 +9,7 @@ use tmpl_values::Bytes;
 
 /// A control with which an else part begins: `{{else if P}}` ("Actions" in the documentation of Go's text/template) and
 /// `{{else with P}}` (there from Go 1.23 on).
-#[derive(Clone, Copy, Debug, PartialEq, Eq)]
+#[derive(Clone, Copy)]
 pub enum Branch {
     If,
     With,

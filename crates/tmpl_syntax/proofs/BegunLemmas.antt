@@ -3,7 +3,7 @@ use Rattle.std.proofs.Common.{arith, ◌≡◌, ◌≤◌, ◌<◌, ◌+◌, ℕ
 use Rattle.std.proofs.Common.{Option, Some}
 use Rattle.std.proofs.lemmas.List.Elements.{All-append, All-cons, All-nil}
 use Rattle.tmpl_lex.specs.Begin.{BeginsAt}
-use Rattle.tmpl_syntax.specs.Examine.{IsLocated, StartsAt}
+use Rattle.tmpl_syntax.specs.Examine.{StartsAt}
 use Rattle.tmpl_syntax.specs.Fault.{Reason}
 use Rattle.tmpl_syntax.specs.Place.Role.{Name, role_of}
 use Rattle.tmpl_syntax.specs.computed.Begun.{AllFrom, IsBegun, IsBegunAs, IsSited, IsStarted}
@@ -15,7 +15,6 @@ use Rattle.tmpl_syntax.specs.declared.found.Found.{Found}
 use Rattle.tmpl_syntax.specs.declared.item.Item.{Item}
 use Rattle.tmpl_syntax.specs.declared.item.ItemKind.{ItemKind}
 use Rattle.tmpl_syntax.specs.declared.item.ItemKind.TheVariants as held
-use Rattle.tmpl_syntax.specs.declared.refused.Refused.{Refused}
 use Rattle.tmpl_syntax.specs.declared.site.Site.{Site}
 use Rattle.tmpl_syntax.proofs.BeginLemmas.{begins-within}
 use Rattle.tmpl_syntax.proofs.SecondStartLemmas.{second-within}
@@ -38,9 +37,16 @@ started_within bs f b = starts_within bs f.kind f.place f.start b
 
 -- ---- items one after the other
 
-pub all-more : {A : Type 0} (P : ℕ → A → Type 0) (n : ℕ) (xs : List A) (x : A) → AllFrom P n xs → P (n + length xs) x → AllFrom P n (xs ++ x ∷ [])
+all-more : {A : Type 0} (P : ℕ → A → Type 0) (n : ℕ) (xs : List A) (x : A) → AllFrom P n xs → P (n + length xs) x → AllFrom P n (xs ++ x ∷ [])
 all-more P n [] x all is = (subst (λ i. P i x) (omega arith) is, tt)
 all-more P n (y ∷ ys) x all is = (all.0, all-more P (n + 1) ys x all.1 (subst (λ i. P i x) (omega arith) is))
+
+pub one-more : {A : Type 0} (P : ℕ → A → Type 0) (old new : List A) (x : A) → new ≡ old ++ x ∷ [] → AllFrom P 0 old → P (length old) x → AllFrom P 0 new
+one-more P old new x n all is = subst (AllFrom P 0) (sym n) (all-more P 0 old x all (subst (λ k. P k x) (omega arith) is))
+
+-- .. and so where it does not matter which one it is
+pub each-more : {A : Type 0} (P : A → Type 0) (old new : List A) (x : A) → new ≡ old ++ x ∷ [] → All P old → P x → All P new
+each-more P old new x n all is = subst (All P) (sym n) (All-append P old (x ∷ []) all (All-cons P x [] is (All-nil P)))
 
 all-at : {A : Type 0} (P : ℕ → A → Type 0) (n : ℕ) (xs : List A) (i : ℕ) (x : A) → AllFrom P n xs → i < length xs → x ≡ get_or xs i x → P (n + i) x
 all-at P n [] i x all lt is = absurd (omega (arith, lt))
@@ -66,31 +72,7 @@ pub refused-begins : (file : List ℕ) (place : ℕ) (x : Item) (top : Option Fr
     → fault_at (role_of (item_of x)) top names ≡ Some why → IsBegun file place x → BeginsAt file place x.start
 refused-begins file place x top names why e b = refused-as file x.line x.what place x.start top names why e b
 
--- one more of what is refused
-pub started-more : (bytes : List ℕ) (old new : List Found) (f : Found) → new ≡ old ++ f ∷ [] → All (IsStarted bytes) old → IsStarted bytes f
-    → All (IsStarted bytes) new
-started-more bytes old new f n all is =
-    subst (All (IsStarted bytes)) (sym n) (All-append (IsStarted bytes) old (f ∷ []) all (All-cons (IsStarted bytes) f [] is (All-nil (IsStarted bytes))))
-
--- one site more
-pub sited-more : (file : List ℕ) (old new : List Site) (x : Site) → new ≡ old ++ x ∷ [] → AllFrom (IsSited file) 0 old → IsSited file (length old) x
-    → AllFrom (IsSited file) 0 new
-sited-more file old new x n all is =
-    subst (AllFrom (IsSited file) 0) (sym n) (all-more (IsSited file) 0 old x all (subst (λ k. IsSited file k x) (omega arith) is))
-
 -- one of what is refused
 pub started-at : (bytes : List ℕ) (all : List Found) (i : ℕ) (f : Found) → All (IsStarted bytes) all → i < length all → f ≡ get_or all i f
     → IsStarted bytes f
 started-at bytes all i f each lt is = subst (IsStarted bytes) (sym is) (each i f lt)
-
--- .. and as it is told
-pub located-more : (bytes : List ℕ) (old new : List Refused) (r : Refused) → new ≡ old ++ r ∷ [] → All (IsLocated bytes) old → IsLocated bytes r
-    → All (IsLocated bytes) new
-located-more bytes old new r n all is =
-    subst (All (IsLocated bytes)) (sym n) (All-append (IsLocated bytes) old (r ∷ []) all (All-cons (IsLocated bytes) r [] is (All-nil (IsLocated bytes))))
-
--- one item more
-pub begun-more : (file : List ℕ) (old new : List Item) (x : Item) → new ≡ old ++ x ∷ [] → AllFrom (IsBegun file) 0 old → IsBegun file (length old) x
-    → AllFrom (IsBegun file) 0 new
-begun-more file old new x n all is =
-    subst (AllFrom (IsBegun file) 0) (sym n) (all-more (IsBegun file) 0 old x all (subst (λ k. IsBegun file k x) (omega arith) is))

@@ -77,5 +77,3 @@ module _ (bytes : List ℕ) (items : List held.Item) (i : ℕ) (known : Known) (
 
   pub checked-open : length stack ≢ 0 → checked bytes (map item_of items) ≡ Err (last_line bytes, open_at_end)
   checked-open n = ended ∙ ap (by_verdict (last_line bytes) (map item_of items)) (open-at (frames_in stack) (λ e. n (sym count ∙ e)))
-
-pub ruleset checks = (checking-start, checking-refused, item-at, role-here, checked-refused, checked-fine, checked-open)

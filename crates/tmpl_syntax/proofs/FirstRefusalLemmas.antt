@@ -4,7 +4,7 @@ use Rattle.std.specs.Prelude.{slice_get}
 use Rattle.std.specs.Option.{option_map}
 use Rattle.std.proofs.lemmas.Option.{slice_get_read, slice_get-map, same_Some}
 use lib.Seq.{get_or-append_seam}
-use Rattle.tmpl_lex.specs.Piece.{Piece, text, action, unreadable}
+use Rattle.tmpl_lex.specs.Piece.{Piece}
 use Rattle.tmpl_lex.specs.Text.{newlines}
 use Rattle.tmpl_lex.specs.computed.Cut.{cut_of}
 use Rattle.tmpl_syntax.specs.Fault as reason
@@ -18,7 +18,7 @@ use Rattle.tmpl_syntax.specs.Place.Role.{role_of}
 use Rattle.tmpl_syntax.specs.Refusals as law
 use Rattle.tmpl_syntax.specs.Refusals.{Site, Found, AreRefusals, roles_in}
 use Rattle.tmpl_syntax.specs.computed.Refusals.{site_in, sites_in}
-use Rattle.tmpl_syntax.proofs.SiteLemmas.{no_other_sites}
+use Rattle.tmpl_syntax.proofs.SiteLemmas.{line-same, no_other_sites, role-same}
 use Rattle.tmpl_syntax.specs.computed.Frames.{Verdict, fine, refused, left_open, Judged}
 use Rattle.tmpl_syntax.specs.computed.Item.{item_in, items_in}
 use Rattle.tmpl_syntax.specs.computed.Parse.{line_in}
@@ -46,19 +46,9 @@ first-for last xs rs v (law.refused before x after {why = why} {rs = more} r a) 
 
 -- ---- the items of a file, and its sites
 
-role-same : (p : Piece) → (site_in p).role ≡ role_of (item_in p)
-role-same (text line bytes) = refl
-role-same (action line ts) = refl
-role-same (unreadable line) = refl
-
 roles-same : (ps : List Piece) → roles_in (sites_in ps) ≡ map role_of (items_in ps)
 roles-same [] = refl
 roles-same (p ∷ ps) = ap (λ r. r ∷ roles_in (sites_in ps)) (role-same p) ∙ ap (λ rs. role_of (item_in p) ∷ rs) (roles-same ps)
-
-line-same : (p : Piece) → (site_in p).line ≡ line_in (Some (item_in p))
-line-same (text line bytes) = refl
-line-same (action line ts) = refl
-line-same (unreadable line) = refl
 
 lines-same : (ps : List Piece) (i line : ℕ) (x : Site) (what : ItemKind) → slice_get (sites_in ps) i ≡ Some x
     → slice_get (items_in ps) i ≡ Some (item line what) → x.line ≡ line

@@ -6,8 +6,6 @@ use Rattle.std.specs.List.{flat_map, list_all}
 use Rattle.tmpl_lex.specs.Bytes.{is_space}
 use Rattle.std.specs.Option.{option_map}
 use Rattle.std.specs.Str.{bytes_eq}
-use Rattle.core.specs.Bool.{Decides, one_answer}
-use Rattle.std.proofs.lemmas.Slice.Eq.{bytes_eq-Decides}
 use Rattle.tmpl_syntax.specs.Tree as tree
 use Rattle.tmpl_syntax.specs.Tree.{text, control_node, NodeKind, Nodes, Tree}
 use Rattle.tmpl_grammar.specs.Action.{define_action, end_action, opening, plain_else}
@@ -16,14 +14,9 @@ use Rattle.tmpl_syntax.specs.Set.{Template, tree_named, is_blank, add_definition
 use Rattle.tmpl_syntax.specs.computed.Set.{has_name, choose}
 use Rattle.tmpl_syntax.specs.Print.Printed.{Said, file_of, node_said, nodes_said, said, said_text, template_said, unlined, unlined_node}
 use Rattle.tmpl_syntax.specs.Print.Laws.{PrintsAlike, Unlined, newline_nodes, unlined_template}
+use Rattle.tmpl_syntax.proofs.SetInvariantLemmas.{same-both}
 
 -- ---- names
-
-other-way : (a b : List ℕ) → bytes_eq a b ≡ false → bytes_eq b a ≡ false
-other-way a b differ = one_answer (bytes_eq b a) (bytes_eq a b) (bytes_eq-Decides b a) flipped ∙ differ
-  where
-    flipped : Decides (bytes_eq a b) (b ≡ a)
-    flipped = (λ e. sym ((bytes_eq-Decides a b).0 e), λ e. (bytes_eq-Decides a b).1 (sym e))
 
 pub not-first : (name : List ℕ) (t : Template) (ts : List Template) → tree_named name (t ∷ ts) ≡ None
     → (bytes_eq name t.0 ≡ false) × (tree_named name ts ≡ None)
@@ -44,7 +37,7 @@ module _ (t : Template) where
   stays-first [] set none = refl
   stays-first (u ∷ us) set none =
       let apart = not-first t.0 u us none in
-      ap (λ b. defined_each (if b then (t.0, choose t.1 u.1) ∷ set else t ∷ add_definition set u.0 u.1) us) (other-way t.0 u.0 apart.0)
+      ap (λ b. defined_each (if b then (t.0, choose t.1 u.1) ∷ set else t ∷ add_definition set u.0 u.1) us) (same-both t.0 u.0 apart.0)
       ∙ stays-first us (add_definition set u.0 u.1) apart.1
 
 pub each-stays : (us : List Template) → HaveOwnNames us → defined_each [] us ≡ us

@@ -114,7 +114,7 @@ each-kept set (t ∷ ts) h k = each-kept (add_definition set t.0 t.1) ts (add_de
 -- ---- names
 
 -- two names are the same whichever is looked at first
-same-both : (a b : List ℕ) → bytes_eq a b ≡ false → bytes_eq b a ≡ false
+pub same-both : (a b : List ℕ) → bytes_eq a b ≡ false → bytes_eq b a ≡ false
 same-both a b differ = one_answer (bytes_eq b a) (bytes_eq a b) (bytes_eq-Decides b a) flipped ∙ differ
   where
     flipped : Decides (bytes_eq a b) (b ≡ a)

@@ -1,5 +1,5 @@
 -- For `read_sites`: the sites of a file's pieces, part by part; and each of them is mended as what it was.
-use Rattle.std.proofs.Common.{◌≡◌, ◌∙◌, ℕ, false, List, [], ◌∷◌, map, refl, ap, sym, ◌++◌, ◌+◌, ◌⊎◌, inl, inr, subst, length}
+use Rattle.std.proofs.Common.{◌≡◌, ◌∙◌, ℕ, false, List, [], ◌∷◌, Some, map, refl, ap, sym, ◌++◌, ◌+◌, ◌⊎◌, inl, inr, subst, length}
 use Rattle.tmpl_lex.specs.Piece.{Token, Piece, text, action, unreadable}
 use Rattle.tmpl_lex.specs.computed.Cut.{cut_of}
 use Rattle.tmpl_lex.specs.Cut.{Cuts}
@@ -10,7 +10,8 @@ use Rattle.std.specs.List.{AllZip}
 use Rattle.std.specs.Prelude.{Result, Ok, Err, Vec, IfOk}
 use Rattle.std.specs.declared.alloc.Global.{Global}
 use Rattle.std.specs.declared.alloc.AllocError.{AllocError}
-use Rattle.tmpl_syntax.specs.declared.found.Found as held_found
+use Rattle.tmpl_syntax.specs.declared.refused.Refused.{Refused}
+use Rattle.tmpl_syntax.specs.Examine.{firsts}
 use Rattle.tmpl_syntax.specs.Fault as reason
 use Rattle.tmpl_syntax.specs.Language.{every_action}
 use Rattle.tmpl_syntax.specs.computed.Item.{item_in}
@@ -19,7 +20,7 @@ use Rattle.tmpl_lex.specs.Text.{newlines}
 use Rattle.tmpl_syntax.specs.Laws.{AcceptsMended, HasSomeRefusals}
 use Rattle.tmpl_syntax.specs.Place.Body.{IsFine, IsLeftOpen}
 use Rattle.tmpl_syntax.specs.Refusals as law
-use Rattle.tmpl_syntax.specs.Refusals.{mend, mended_at, mended_each, mended_in, roles_in, Found, HasRefusals, HasSites, show, IsSite, Site, mended_by, declared_in}
+use Rattle.tmpl_syntax.specs.Refusals.{mend, mended_at, mended_each, mended_in, roles_in, Found, HasRefusals, HasSites, refused_seen, show, IsSite, Site, mended_by, declared_in}
 use Rattle.tmpl_syntax.specs.Item.{Item, ItemKind, item, IsItem, a_text, an_unreadable, text_item, flawed_item}
 use Rattle.tmpl_grammar.specs.Action as grammar
 use Rattle.tmpl_syntax.specs.Place.Role.{role_of}
@@ -27,7 +28,8 @@ use Rattle.tmpl_syntax.proofs.RefusalLemmas.{AreSites, StaysSite, StaysBranch, f
 use Rattle.tmpl_grammar.specs.computed.Depth.{Reading, unread, too_deep, read}
 use Rattle.tmpl_grammar.specs.computed.Reading.{reading_in}
 use Rattle.tmpl_syntax.specs.computed.Item.{read_item}
-use Rattle.tmpl_syntax.specs.computed.Refusals.{found_seen, refusals_in, site_in, sites_in}
+use Rattle.tmpl_syntax.specs.computed.Parse.{line_in}
+use Rattle.tmpl_syntax.specs.computed.Refusals.{refusals_in, site_in, sites_in}
 
 -- the file's sites are these, and those of what the rest is cut into
 abbrev pub AreSoFar : List ℕ → List Site → held.Rest → Type 0
@@ -86,15 +88,12 @@ has_sites bytes = (cut_of bytes, cut_of-Cuts bytes, zip-sites (cut_of bytes))
 abbrev kind_of : Item → ItemKind
 kind_of (item line what) = what
 
-abbrev line_of : Item → ℕ
-line_of (item line what) = line
-
-role-same : (p : Piece) → (site_in p).role ≡ role_of (item_in p)
+pub role-same : (p : Piece) → (site_in p).role ≡ role_of (item_in p)
 role-same (text line bytes) = refl
 role-same (action line ts) = refl
 role-same (unreadable line) = refl
 
-line-same : (p : Piece) → (site_in p).line ≡ line_of (item_in p)
+pub line-same : (p : Piece) → (site_in p).line ≡ line_in (Some (item_in p))
 line-same (text line bytes) = refl
 line-same (action line ts) = refl
 line-same (unreadable line) = refl
@@ -111,7 +110,7 @@ site-eq x y e f g = ap (λ n. record { line = n; role = x.role; mended = x.mende
 only-site : (p : Piece) (x : Site) → IsSite p x → x ≡ site_in p
 only-site p x (what, is, r, m) =
     let e : item x.line what ≡ item_in p = only-item every_action is ∙ for-every p in
-    site-eq x (site_in p) (ap line_of e ∙ sym (line-same p)) (r ∙ ap role_of e ∙ sym (role-same p))
+    site-eq x (site_in p) (ap (λ y. line_in (Some y)) e ∙ sym (line-same p)) (r ∙ ap role_of e ∙ sym (role-same p))
     (m ∙ ap (λ y. mended_in (kind_of y) p) e ∙ sym (mended-same p))
 
 only-sites : (ps : List Piece) (xs : List Site) → AllZip IsSite ps xs → xs ≡ sites_in ps
@@ -125,9 +124,9 @@ no_other_sites bytes xs h = only-sites h.0 xs h.2 ∙ ap sites_in (Cuts-cut_of b
 pub all_found : (bytes : List ℕ) → HasRefusals bytes (refusals_in (newlines bytes + 1) (sites_in (cut_of bytes)))
 all_found bytes = (sites_in (cut_of bytes), has_sites bytes, found-all (newlines bytes + 1) (sites_in (cut_of bytes)) (are-sites (cut_of bytes)))
 
-pub all_refused : (bytes : List ℕ) (last : ℕ) (xs : List Site) (r : Result (Vec held_found.Found Global) AllocError) → xs ≡ sites_in (cut_of bytes)
-    → last ≡ newlines bytes + 1 → IfOk r (λ v. map found_seen v.items ≡ map show (refusals_in last xs))
-    → IfOk r (λ v. (rs : List Found) × HasRefusals bytes rs × (map found_seen v.items ≡ map show rs))
+pub all_refused : (bytes : List ℕ) (last : ℕ) (xs : List Site) (r : Result (Vec Refused Global) AllocError) → xs ≡ sites_in (cut_of bytes)
+    → last ≡ newlines bytes + 1 → IfOk r (λ v. map refused_seen v.items ≡ firsts (map show (refusals_in last xs)))
+    → IfOk r (λ v. (rs : List Found) × HasRefusals bytes rs × (map refused_seen v.items ≡ firsts (map show rs)))
 all_refused bytes last xs (Ok v) e f g = (refusals_in last xs, rw (e, f) (all_found bytes), g)
 all_refused bytes last xs (Err e) f g h = h
 

@@ -1,12 +1,12 @@
 //! The definitions of a file.
 ghost use Rattle.std.specs.Prelude.{◌≡◌, ◌++◌, ◌∷◌, [], IfOk, OnOk, map, reverse};
 ghost use Rattle.tmpl_grammar.specs.Action.{block_action};
-ghost use Rattle.tmpl_grammar.specs.View.{action_of, header_of, pipeline_of};
+ghost use Rattle.tmpl_grammar.specs.View.{header_of, pipeline_of};
 ghost use Rattle.tmpl_syntax.specs.Item.{action_item, item};
 ghost use Rattle.tmpl_syntax.specs.Tree.{control_node};
 ghost use Rattle.tmpl_syntax.specs.computed.View.{definition_of, item_of, kind_of, level_of, parts_of};
 ghost use Rattle.tmpl_syntax.specs.computed.Parse.{all_from};
-ghost use Rattle.tmpl_syntax.specs.computed.Begun.{action_start, header_start, open_starts, starts_in, starts_of};
+ghost use Rattle.tmpl_syntax.specs.computed.Begun.{header_start, open_starts, starts_in, starts_of};
 ghost use Rattle.tmpl_syntax.specs.computed.Build as spec;
 
 use crate::item::{Item, ItemKind};
@@ -125,25 +125,11 @@ fn put(alloc: Global, parts: &mut OpenParts, item: Item) -> Result<(), AllocErro
         ≡ header_start item.what item.start ++ open_starts parts.old) }
 {
     let Item { line, start, what } = item;
-    match what {
-        ItemKind::Text(text) => put_node(parts, line, start, NodeKind::Text(text)),
-        ItemKind::Unreadable | ItemKind::Unread | ItemKind::TooDeep(_) => Ok(()),
-        ItemKind::Action(action) => put_action(alloc, parts, line, start, action),
-    }
-}
-
-/// Puts an action before the items that are after it.
-fn put_action(
-    alloc: Global,
-    parts: &mut OpenParts,
-    line: u64,
-    start: usize,
-    action: Action,
-) -> Result<(), AllocError>
-    ensures parts { IfOk result (λ u. parts_of parts.new
-        ≡ spec.parts_with (item line (action_item (action_of action))) (parts_of parts.old)) }
-    ensures starts { IfOk result (λ u. open_starts parts.new ≡ action_start action start ++ open_starts parts.old) }
-{
+    let action = match what {
+        ItemKind::Text(text) => return put_node(parts, line, start, NodeKind::Text(text)),
+        ItemKind::Unreadable | ItemKind::Unread | ItemKind::TooDeep(_) => return Ok(()),
+        ItemKind::Action(action) => action,
+    };
     match action {
         Action::Pipeline(header) => put_node(parts, line, start, NodeKind::Action(header)),
         Action::Open(control, header) => put_control(alloc, parts, line, start, control, header),

@@ -5,7 +5,7 @@ ghost use Rattle.tmpl_syntax.specs.Column.{IsPlace};
 ghost use Rattle.tmpl_syntax.specs.computed.Past.{column_past, line_past};
 
 /// The place before which this many bytes of a file stand.
-#[derive(Clone, Copy, Debug)]
+#[derive(Clone, Copy)]
 pub struct Place {
     pub start: usize,
     /// Its line, counted from 1.

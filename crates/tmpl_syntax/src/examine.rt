@@ -7,11 +7,12 @@ ghost use Rattle.tmpl_syntax.specs.View.{set_view};
 
 use crate::column::Place;
 use crate::fault::{ParseKind, Refusal};
-use crate::found::refusals;
+use crate::found::refusals_in;
 use crate::name_hash::NameHash;
-use crate::parse::read_file;
+use crate::parse::{copy_of, read_file, share_bytes};
 use crate::refused::{About, Refused, firsts};
 use crate::set::Set;
+use crate::site::read_sites;
 use std::alloc::{AllocError, Global};
 
 /// Adds the templates of a file to the set, as `parse_file` does, or gives all that is refused of the file, and where:
@@ -82,6 +83,8 @@ fn all_refused(alloc: Global, names: NameHash, bytes: &[u8]) -> Result<Vec<Refus
         × (map refused_seen v.items ≡ firsts (map show rs))) }
     ensures located { IfOk result (λ v. All (IsLocated bytes.now) v.items) }
 {
-    let all = refusals(alloc, names, bytes)?;
+    let contents = share_bytes(alloc, copy_of(alloc, bytes)?)?;
+    let sites = read_sites(alloc, &contents)?;
+    let all = refusals_in(alloc, names, sites.as_slice(), bytes)?;
     firsts(alloc, bytes, all.as_slice())
 }

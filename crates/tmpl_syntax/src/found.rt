@@ -1,7 +1,6 @@
 //! All for which a file is refused.
-ghost use Rattle.std.specs.Prelude.{List, ◌≡◌, ◌≤◌, ◌++◌, All, IfOk, OnOk, length, map};
-ghost use Rattle.tmpl_syntax.specs.Refusals.{HasRefusals, show};
-ghost use Rattle.tmpl_syntax.specs.Refusals as refusal;
+ghost use Rattle.std.specs.Prelude.{◌≡◌, ◌++◌, All, IfOk, OnOk, map};
+ghost use Rattle.tmpl_syntax.specs.Refusals.{show};
 ghost use Rattle.tmpl_syntax.specs.computed.Begun.{AllFrom, IsSited, IsStarted};
 ghost use Rattle.tmpl_syntax.specs.computed.Parse.{last_line};
 ghost use Rattle.tmpl_syntax.specs.computed.Refusals.{found_open, found_seen, refusals_in, site_of};
@@ -9,14 +8,13 @@ ghost use Rattle.tmpl_syntax.specs.computed.View.{frames_in};
 
 use crate::fault::ParseKind;
 use crate::name_hash::NameHash;
-use crate::parse::{copy_of, share_bytes};
 use crate::place::check::last_line;
 use crate::place::frame::Frame;
 use crate::place::mend::take_in_site;
 use crate::place::pass::newest;
 use crate::place::scopes::Scopes;
 use crate::refused::About;
-use crate::site::{Site, read_sites};
+use crate::site::Site;
 use std::alloc::{AllocError, Global};
 
 /// Why a file is refused, and where: an action of it, or its end where something is open there.
@@ -32,30 +30,15 @@ pub(crate) struct Found {
     pub(crate) about: About,
 }
 
-/// All that is refused of a file: the first refused action, then what is refused where that is mended. It counts as a
-/// bare opening, else branch or end if it is one or its first word says so, and else as not there; each variable that
-/// stands in it counts as declared. Where it is refused again it counts as not there. The names are hashed so.
+/// What is refused of these items of a file of these bytes: the first refused action, then what is refused where that is
+/// mended. It counts as a bare opening, else branch or end if it is one or its first word says so, and else as not
+/// there; each variable that stands in it counts as declared. Where it is refused again it counts as not there. The
+/// names are hashed so.
 ///
 /// # Errors
 ///
 /// Where memory ran out.
-pub(crate) fn refusals(
-    alloc: Global,
-    hash: NameHash,
-    bytes: &[u8],
-) -> Result<Vec<Found>, AllocError>
-    requires { length bytes.now ≤ 16777216 }
-    ensures refused { IfOk result (λ v. (rs : List refusal.Found) × HasRefusals bytes.now rs
-        × (map found_seen v.items ≡ map show rs)) }
-    ensures started { IfOk result (λ v. All (IsStarted bytes.now) v.items) }
-{
-    let contents = share_bytes(alloc, copy_of(alloc, bytes)?)?;
-    let sites = read_sites(alloc, &contents)?;
-    refusals_in(alloc, hash, sites.as_slice(), bytes)
-}
-
-/// What is refused of these items of a file of these bytes.
-fn refusals_in(
+pub(crate) fn refusals_in(
     alloc: Global,
     hash: NameHash,
     sites: &[Site<'_>],

@@ -138,7 +138,7 @@ fn add_file(alloc: Global, set: &mut Set, file: &str, bytes: Vec<u8>) -> Result<
     add_items(alloc, set, file, items, contents.as_slice())
 }
 
-/// The bytes, to be shared by the texts of a file.
+/// The bytes, to be shared: those of a file by its texts, those of its path by its templates.
 pub(crate) fn share_bytes(alloc: Global, bytes: Vec<u8>) -> Result<Arc<Bytes>, AllocError>
     ensures { IfOk result (λ contents. contents.value ≡ bytes.items) }
 {
@@ -207,7 +207,7 @@ fn first_line(definitions: &[Definition], name: &[u8]) -> u64 {
     1
 }
 
-/// The definitions as templates in this file.
+/// The definitions as templates in this file, whose path they share.
 fn templates_of(
     alloc: Global,
     file: &str,
@@ -216,23 +216,10 @@ fn templates_of(
     ensures { IfOk result (λ v. map template_of v.items
         ≡ map (template_in file.now) (map definition_of definitions.items)) }
 {
-    let path = Arc::new(alloc, Bytes::new(copy_of(alloc, file.as_bytes())?))?;
-    templates_at(alloc, &path, definitions)
-}
-
-/// The definitions as templates in the file of this path, which they share.
-#[tactic(auto)]
-fn templates_at(
-    alloc: Global,
-    path: &Arc<Bytes>,
-    definitions: Vec<Definition>,
-) -> Result<Vec<(Vec<u8>, Tree)>, AllocError>
-    ensures { IfOk result (λ v. map template_of v.items
-        ≡ map (template_in path.now.value) (map definition_of definitions.items)) }
-{
+    let path = share_bytes(alloc, copy_of(alloc, file.as_bytes())?)?;
     let mut templates = Vec::with_capacity(alloc, definitions.len())?;
     for definition in definitions {
-        templates.push(template(path, definition)?)?;
+        templates.push(template(&path, definition)?)?;
     }
     Ok(templates)
 }

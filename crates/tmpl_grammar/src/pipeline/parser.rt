@@ -46,11 +46,11 @@ impl PartialPipeline {
     }
 }
 
-/// Adds an element. The first one takes room for itself alone, since most lists have no other.
-fn add<T: Drop>(items: &mut Vec<T>, item: T) -> Result<(), AllocError>
+/// Adds an element. The first few, this many, take room for themselves alone, since most lists have no more.
+fn add<T: Drop>(items: &mut Vec<T>, few: usize, item: T) -> Result<(), AllocError>
     ensures { OnOk result (items.new.items ≡ items.old.items ++ item ∷ []) }
 {
-    if items.is_empty() {
+    if items.len() < few {
         items.reserve_exact(1)?;
     }
     items.push(item)?;
@@ -64,7 +64,7 @@ fn settle(last: &mut Option<Operand>, operands: &mut Vec<Operand>) -> Result<(),
     ensures last { last.new ≡ None }
 {
     match last.take() {
-        Some(operand) => add(operands, operand),
+        Some(operand) => add(operands, 1, operand),
         None => Ok(()),
     }
 }
@@ -75,30 +75,19 @@ fn link(operand: &mut Operand, name: Bytes) -> Result<bool, AllocError>
 {
     match operand {
         Operand::Fields(fields) => {
-            extend(fields, name)?;
+            add(fields, 2, name)?;
             Ok(true)
         }
         Operand::Variable { fields, .. } => {
-            extend(fields, name)?;
+            add(fields, 2, name)?;
             Ok(true)
         }
         Operand::Group { fields, .. } => {
-            extend(fields, name)?;
+            add(fields, 2, name)?;
             Ok(true)
         }
         _ => Ok(false),
     }
-}
-
-/// Adds a field to a chain. The first two take room for themselves alone, since most chains have no more.
-fn extend(fields: &mut Vec<Bytes>, name: Bytes) -> Result<(), AllocError>
-    ensures { OnOk result (fields.new.items ≡ fields.old.items ++ name ∷ []) }
-{
-    if fields.len() < 2 {
-        fields.reserve_exact(1)?;
-    }
-    fields.push(name)?;
-    Ok(())
 }
 
 /// Whether this operand may begin a command after a bar: a constant, `nil` and dot may not.
@@ -185,7 +174,7 @@ impl PipelineParser {
             return Ok(false);
         }
         let operands = mem::replace(&mut self.inner.operands, Vec::new(alloc));
-        add(&mut self.inner.commands, Command { operands })?;
+        add(&mut self.inner.commands, 1, Command { operands })?;
         Ok(true)
     }
 

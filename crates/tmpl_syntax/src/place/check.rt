@@ -16,7 +16,7 @@ use std::alloc::Global;
 
 /// Refuses the first action that is refused, or else at its last line a file in which something is open at the end. The
 /// names in it are hashed so.
-#[tactic(auto, using(crate::proofs::CheckLemmas::checks), unfolding(crate::specs::computed::View::scopes_of))]
+#[tactic(auto, unfolding(crate::specs::computed::View::scopes_of))]
 pub(crate) fn check(
     alloc: Global,
     hash: NameHash,

@@ -54,20 +54,10 @@ fn deep_fault(branch: Option<Branch>, outside: Option<Frame>) -> Fault
     ensures { Some (of_action result)
         ≡ first_fault (is_placed (nested branch) (option_map frame_of outside)) true true }
 {
-    if is_branch_in_place(branch, outside) {
+    if branch.is_none() || may_take_else(branch, outside) {
         Fault::NestedTooDeeply
     } else {
         Fault::OutOfPlace
-    }
-}
-
-/// Whether an else branch of this control may stand there; any other action may.
-fn is_branch_in_place(branch: Option<Branch>, outside: Option<Frame>) -> bool
-    ensures { result ≡ is_placed (nested branch) (option_map frame_of outside) }
-{
-    match branch {
-        Some(_) => may_take_else(branch, outside),
-        None => true,
     }
 }
 

@@ -6,12 +6,16 @@ use Rattle.tmpl_grammar.proofs.print.+print.Given as goal
 
 abbrev pub invariant-print_commands-loop-command : goal.invariant-print_commands-loop-command
 invariant-print_commands-loop-command l =
-    (l.bytes.items ++ bytes_of (commands_by l.first (commands_in (drop l.command-index l.commands)))
-    ≡ l.initial.bytes.items ++ bytes_of (pipeline_tokens (commands_in l.commands)))
-    × (take (length l.initial.bytes.items) l.bytes.items ≡ l.initial.bytes.items)
+    record {
+      printed : l.bytes.items ++ bytes_of (commands_by l.first (commands_in (drop l.command-index l.commands)))
+          ≡ l.initial.bytes.items ++ bytes_of (pipeline_tokens (commands_in l.commands));
+      kept : take (length l.initial.bytes.items) l.bytes.items ≡ l.initial.bytes.items;
+    }
 
 abbrev pub invariant-print_operands-loop-operand : goal.invariant-print_operands-loop-operand
 invariant-print_operands-loop-operand l =
-    (l.bytes.items ++ bytes_of (operands_by l.first (operands_in (drop l.operand-index l.operands)))
-    ≡ l.initial.bytes.items ++ bytes_of (command_tokens (operands_in l.operands)))
-    × (take (length l.initial.bytes.items) l.bytes.items ≡ l.initial.bytes.items)
+    record {
+      printed : l.bytes.items ++ bytes_of (operands_by l.first (operands_in (drop l.operand-index l.operands)))
+          ≡ l.initial.bytes.items ++ bytes_of (command_tokens (operands_in l.operands));
+      kept : take (length l.initial.bytes.items) l.bytes.items ≡ l.initial.bytes.items;
+    }

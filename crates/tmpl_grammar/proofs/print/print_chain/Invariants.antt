@@ -4,5 +4,7 @@ use Rattle.tmpl_grammar.proofs.print.print_chain.Given as goal
 
 abbrev pub invariant-loop-name : goal.invariant-loop-name
 invariant-loop-name l =
-    (l.bytes.items ++ bytes_of (chain_tokens (drop l.name-index l.names)) ≡ l.initial.bytes.items ++ bytes_of (chain_tokens l.names))
-    × (take (length l.initial.bytes.items) l.bytes.items ≡ l.initial.bytes.items)
+    record {
+      printed : l.bytes.items ++ bytes_of (chain_tokens (drop l.name-index l.names)) ≡ l.initial.bytes.items ++ bytes_of (chain_tokens l.names);
+      kept : take (length l.initial.bytes.items) l.bytes.items ≡ l.initial.bytes.items;
+    }

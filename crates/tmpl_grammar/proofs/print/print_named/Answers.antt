@@ -1,13 +1,11 @@
-use Rattle.tmpl_grammar.proofs.PrintLemmas.{still_begins_on_err, still_begins_twice}
+use Rattle.tmpl_grammar.proofs.PrintLemmas.{on_err, still_begins, still_begins_on_err}
 use Rattle.tmpl_grammar.proofs.print.print_named.Goals as goal
 
--- src/print.rt:76:5
 pub returns-in_err-add_quote-clause-kept : goal.returns-in_err-add_quote-clause-kept
 returns-in_err-add_quote-clause-kept c =
-    still_begins_twice _ _ _ _ _ _ _ c.in_ok-extend_from_slice.ensures.items c.in_ok-extend_from_slice-2.ensures.items
-    c.in_err-add_quote.ensures.kept
+    on_err _ (still_begins _ _ _ _ c.in_ok-extend_from_slice.ensures.items
+    (still_begins _ _ _ _ c.in_ok-extend_from_slice-2.ensures.items c.in_err-add_quote.ensures.kept))
 
--- src/print.rt:63:1
 pub returns-in_ok-extend_from_slice-in-Some-clause-kept :
     goal.returns-in_ok-extend_from_slice-in-Some-clause-kept
 returns-in_ok-extend_from_slice-in-Some-clause-kept c =

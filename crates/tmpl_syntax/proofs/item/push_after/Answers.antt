@@ -1,16 +1,16 @@
 use Rattle.std.proofs.Common.{length, subst}
-use Rattle.tmpl_syntax.specs.computed.Begun.{BeginsThere}
-use Rattle.tmpl_syntax.proofs.BegunLemmas.{begun-more}
+use Rattle.tmpl_syntax.specs.computed.Begun.{BeginsThere, IsBegun}
+use Rattle.tmpl_syntax.proofs.BegunLemmas.{one-more}
 use Rattle.tmpl_syntax.proofs.item.push_after.Goals as goal
 
 pub returns-in_ok-push-in-Action-clause-begins : goal.returns-in_ok-push-in-Action-clause-begins
 returns-in_ok-push-in-Action-clause-begins c = λ file there all.
     let old = c.args.items.now.items in
     let begins = subst (λ a. BeginsThere file a (length old) c.args.start) c.in-Action.is there in
-    begun-more file old c.push.new.self.items _ c.in_ok-push-in-Action.ensures.items all (c.in_ok-action_item-in-Action.ensures.begins file (length old) begins)
+    one-more (IsBegun file) old c.push.new.self.items _ c.in_ok-push-in-Action.ensures.items all (c.in_ok-action_item-in-Action.ensures.begins file (length old) begins)
 
 pub returns-in_ok-push-in-Unreadable-clause-begins : goal.returns-in_ok-push-in-Unreadable-clause-begins
 returns-in_ok-push-in-Unreadable-clause-begins c = λ file there all.
     let old = c.args.items.now.items in
     let begins = subst (λ a. BeginsThere file a (length old) c.args.start) c.in-Unreadable.is there in
-    begun-more file old c.push-in-Unreadable.new.self.items _ c.in_ok-push-in-Unreadable.ensures.items all begins
+    one-more (IsBegun file) old c.push-in-Unreadable.new.self.items _ c.in_ok-push-in-Unreadable.ensures.items all begins
