@@ -1,7 +1,7 @@
 -- For the functions that carry out an instruction: what it does, by what is found on the stack.
 use Rattle.std.proofs.lemmas.Bool.Decides.{nat_tests}
 use Rattle.std.proofs.Common.{arith, ◌≡◌, ◌∙◌, ◌+◌, ◌-◌, ◌≤◌, ◌<◌, nat_lt, ℕ, ℤ, pos, zero, suc, true, false, List, [], ◌∷◌, length, drop, refl, ap}
-use Rattle.std.proofs.Common.{Bool, Option, Some, None, Ok, Result, drop-cons, drop-drop, get_or, nat_eq, subst, sym}
+use Rattle.std.proofs.Common.{Option, Some, None, drop-cons, drop-drop, get_or}
 use Rattle.std.proofs.lemmas.List.{drop_all}
 use Rattle.std.proofs.lemmas.Option.{get_or_from_slice_get, slice_get-get_or, slice_get_within}
 use Rattle.std.specs.Prelude.{slice_get}
@@ -9,18 +9,9 @@ use Rattle.std.specs.Int.{int_gap}
 use Rattle.std.proofs.lemmas.List.FromFn.{get_or-map-range_with_len, length-map-range_with_len}
 use Rattle.tmpl_values.specs.Value.{Value, nothing, number}
 use Rattle.tmpl_values.specs.Elements.{Element, element_at, elements, item_at}
-use Rattle.tmpl_values.specs.View.{val_of}
-use Rattle.tmpl_meaning.specs.Fault.{Cause}
-use Rattle.tmpl_meaning.specs.Pipeline.{chain}
-use Rattle.tmpl_code.specs.Instruction as code
-use Rattle.tmpl_code.specs.Instruction.{Instruction}
 use Rattle.tmpl_engine.specs.Cell.{Cell, cell}
-use Rattle.tmpl_engine.specs.Machine.{Turn, after_step_if, carry_out, elements_in, goes, is_number, left_in, put_value}
-use Rattle.tmpl_engine.specs.State.{Plan, State}
+use Rattle.tmpl_engine.specs.Machine.{elements_in, is_number, left_in}
 use Rattle.tmpl_engine.specs.computed.Held.{has_more}
-use Rattle.tmpl_engine.specs.computed.Machines.{no_template, state_of}
-use Rattle.tmpl_engine.specs.computed.Turned.{beyond, paid_for, text_in}
-use Rattle.tmpl_engine.specs.declared.machine.Machine.{Machine}
 
 -- the elements from a place on
 got : (es : List Element) (i : ℕ) (e : Element) → slice_get es i ≡ Some e → drop i es ≡ e ∷ drop (suc i) es
@@ -86,30 +77,3 @@ pub ruleset lands = (none-at, none-left, more-left)
 
 -- where a template starts
 pub ruleset starts = (slice_get-get_or)
-
--- ---- bytes that are put out after a step was taken
-
-module _ (plan : Plan) (line : ℕ) (m n : Machine) (some : nat_eq m.left 0 ≡ false) (taken : n ≡ record m { left = m.left - 1; line = line }) where
-  abbrev PutsOut : Instruction → Machine → Type 0
-  PutsOut i q = carry_out plan no_template i (state_of m)
-      ≡ goes (beyond plan.rules.missing_key i (state_of m) (state_of (record q { place = q.place + 1 })))
-
-  abbrev after : List ℕ → State
-  after text = record (state_of m) { text = text; left = m.left - 1; line = line; place = m.place + 1 }
-
-  pays : (more : State → Turn) (text : List ℕ) → more (record (state_of m) { left = m.left - 1; line = line }) ≡ goes (after text)
-      → (b : Bool) → b ≡ false → after_step_if b plan no_template line (state_of m) more ≡ goes (after (paid_for b text))
-  pays more text is true e = cc
-  pays more text is false e = is
-
-  pub bytes-put : (bytes : List ℕ) → PutsOut (code.put line bytes) n
-  bytes-put bytes = subst (PutsOut (code.put line bytes)) (sym taken) (pays _ bytes refl (nat_eq m.left 0) some)
-
-  pub field-put : (names : List (List ℕ)) (v : Value) → Ok v ≡ chain plan.rules.missing_key names (val_of n.dot) → PutsOut (code.show_fields line names) n
-  field-put names v found = subst (PutsOut (code.show_fields line names)) (sym taken)
-      (pays (λ s. put_value no_template (chain plan.rules.missing_key names s.dot) s) (text_in (chain plan.rules.missing_key names (val_of m.dot)))
-      (subst (λ (r : Result Value Cause). put_value no_template r (record (state_of m) { left = m.left - 1; line = line }) ≡ goes (after (text_in r))) here refl)
-      (nat_eq m.left 0) some)
-    where
-      here : Ok v ≡ chain plan.rules.missing_key names (val_of m.dot)
-      here = subst (λ (q : Machine). Ok v ≡ chain plan.rules.missing_key names (val_of q.dot)) taken found
