@@ -126,7 +126,7 @@ fn put_shown(code: &mut Code, binding: &Binding) -> Result<(), AllocError>
     match binding {
         Binding::Unbound => code.push(Instruction::Show),
         Binding::Assign(_) => code.push(Instruction::Forget { count: 1, skip: 0 }),
-        Binding::Declare(_) | Binding::DeclarePair(_) => Ok(()),
+        _ => Ok(()),
     }
 }
 
@@ -161,7 +161,7 @@ pub(crate) fn declares(binding: &Binding) -> bool
 {
     match binding {
         Binding::Declare(_) | Binding::DeclarePair(_) => true,
-        Binding::Unbound | Binding::Assign(_) => false,
+        _ => false,
     }
 }
 
@@ -171,7 +171,7 @@ pub(crate) fn declares_key(binding: &Binding) -> bool
 {
     match binding {
         Binding::DeclarePair(_) => true,
-        Binding::Unbound | Binding::Declare(_) | Binding::Assign(_) => false,
+        _ => false,
     }
 }
 
@@ -180,9 +180,9 @@ pub(crate) fn declared_count(binding: &Binding) -> usize
     ensures { result ≡ declared_count (binding_of binding.now) }
 {
     match binding {
-        Binding::Unbound | Binding::Assign(_) => 0,
         Binding::Declare(_) => 1,
         Binding::DeclarePair(_) => 2,
+        _ => 0,
     }
 }
 
@@ -196,7 +196,7 @@ pub(crate) fn open<'s>(scope: &mut Scope<'s>, binding: &'s Binding) -> Result<()
             scope.declare(pair.key.as_slice())?;
             scope.declare(pair.element.as_slice())
         }
-        Binding::Unbound | Binding::Assign(_) => Ok(()),
+        _ => Ok(()),
     }
 }
 
@@ -210,6 +210,6 @@ pub(crate) fn close(scope: &mut Scope<'_>, binding: &Binding)
             scope.forget();
             scope.forget();
         }
-        Binding::Unbound | Binding::Assign(_) => {}
+        _ => {}
     }
 }

@@ -40,7 +40,7 @@ pub fn compile(alloc: Global, set: &Set) -> Result<Program, AllocError>
     };
     let mut lengths = Vec::with_capacity(alloc, count)?;
     let mut needs = Vec::with_capacity(alloc, count)?;
-    let mut survey = Survey::nothing();
+    let mut survey = Survey::cells(0);
     let mut i = count;
     while i > 0 {
         i -= 1;
@@ -131,7 +131,7 @@ impl<'s> Compiler<'s> {
         ensures survey { IfOk result (SurveysNodes (nodes_in nodes.now)) }
     {
         grow_all(&mut self.scope, nodes)?;
-        let mut survey = Survey::nothing();
+        let mut survey = Survey::cells(0);
         let mut i = nodes.len();
         while i > 0 {
             i -= 1;

@@ -5,14 +5,14 @@ ghost use Rattle.tmpl_syntax.specs.Need as needs;
 ghost use Rattle.tmpl_syntax.specs.View.{control_of, node_of, nodes_in};
 
 use crate::binding::declared_count;
-use crate::cost::{Cost, cost_of_given, cost_of_pipeline};
+use crate::cost::{cost_of_given, cost_of_pipeline};
 use crate::node::left_after;
 use crate::pipeline::sum;
 use std::alloc::AllocError;
 use tmpl_grammar::Control;
 use tmpl_syntax::{ControlNode, Node, NodeKind};
 
-/// What a node, or several, need and do.
+/// What a node or a pipeline, or several, need and do.
 #[derive(Clone, Copy)]
 pub(crate) struct Survey {
     /// How many cells of a stack they need.
@@ -24,12 +24,12 @@ pub(crate) struct Survey {
 }
 
 impl Survey {
-    /// The survey of no node.
-    pub(crate) fn nothing() -> Survey
-        ensures { Surveys 0 false false result }
+    /// The survey of what needs this many cells, and does nothing else.
+    pub(crate) fn cells(need: usize) -> Survey
+        ensures { Surveys need false false result }
     {
         Survey {
-            need: 0,
+            need,
             makes_text: false,
             calls: false,
         }
@@ -56,17 +56,6 @@ impl Survey {
             ..self
         })
     }
-
-    /// The survey of a pipeline that costs so much, and of a call of a template where there is one.
-    fn of_cost(cost: Cost, calls: bool) -> Survey
-        ensures { Surveys cost.need cost.makes_text calls result }
-    {
-        Survey {
-            need: cost.need,
-            makes_text: cost.makes_text,
-            calls,
-        }
-    }
 }
 
 /// The survey of nodes, each above the variables that those before it leave.
@@ -75,7 +64,7 @@ impl Survey {
 fn survey_nodes(nodes: &[Node]) -> Result<Survey, AllocError>
     ensures { IfOk result (SurveysNodes (nodes_in nodes.now)) }
 {
-    let mut survey = Survey::nothing();
+    let mut survey = Survey::cells(0);
     let mut i = nodes.len();
     while i > 0 {
         i -= 1;
@@ -91,10 +80,13 @@ pub(crate) fn survey_node(node: &Node) -> Result<Survey, AllocError>
     ensures { IfOk result (SurveysNode (node_of node.now).what) }
 {
     match &node.what {
-        NodeKind::Text(_) | NodeKind::Break | NodeKind::Continue => Ok(Survey::nothing()),
-        NodeKind::Action(header) => Ok(Survey::of_cost(cost_of_pipeline(&header.pipeline)?, false)),
+        NodeKind::Text(_) | NodeKind::Break | NodeKind::Continue => Ok(Survey::cells(0)),
+        NodeKind::Action(header) => cost_of_pipeline(&header.pipeline),
         NodeKind::Control(control) => survey_control(control),
-        NodeKind::Template(_, given) => Ok(Survey::of_cost(cost_of_given(given)?, true)),
+        NodeKind::Template(_, given) => Ok(Survey {
+            calls: true,
+            ..cost_of_given(given)?
+        }),
     }
 }
 

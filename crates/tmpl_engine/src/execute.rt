@@ -1,15 +1,15 @@
 //! One instruction, whichever it is.
-ghost use Rattle.std.specs.Prelude.{◌≡◌, ◌+◌, ◌-◌, ◌<◌, ◌^◌, false, length};
+ghost use Rattle.std.specs.Prelude.{◌+◌, ◌-◌, ◌<◌, ◌^◌, false, length};
 ghost use Rattle.tmpl_meaning.specs.Sink.{IsPut};
 ghost use Rattle.tmpl_code.specs.View.{instruction_of};
 ghost use Rattle.tmpl_engine.specs.Machine.{carry_out};
 ghost use Rattle.tmpl_engine.specs.computed.Machines.{no_template, state_of};
 ghost use Rattle.tmpl_engine.specs.computed.Output.{Grows, given_of};
-ghost use Rattle.tmpl_engine.specs.computed.Plain.{IsPlain, SparedOr, StopsIn};
+ghost use Rattle.tmpl_engine.specs.computed.Plain.{SteadyUnless};
 ghost use Rattle.tmpl_engine.specs.computed.Near.{HasNear};
 ghost use Rattle.tmpl_engine.specs.computed.Plan.{plan_of};
 ghost use Rattle.tmpl_engine.specs.computed.Turned.{Executed, IsAble, Lands, mark_after, put_by, put_out};
-ghost use Rattle.tmpl_engine.specs.computed.View.{IsSameRoom, cells_of, size_of};
+ghost use Rattle.tmpl_engine.specs.computed.View.{cells_of, size_of};
 
 use crate::flow::Flow;
 use crate::halt::Halt;
@@ -47,10 +47,8 @@ impl<'m, 'a> Machine<'m, 'a> {
             (given_of (S.so_far sink.new) piece.new)
             (put_out options.now.missing_key (instruction_of program.now.tables instruction.now) self.old result) }
         ensures taken { Grows (S.so_far sink.old) (S.so_far sink.new) }
-        ensures plain { mark_after (instruction_of program.now.tables instruction.now) false ≡ false
-            → IsPlain self.old → SparedOr result (IsPlain self.new) }
-        ensures size { IsSameRoom self.old.stack self.new.stack }
-        ensures template { StopsIn result self.old self.new }
+        ensures steady { SteadyUnless (mark_after (instruction_of program.now.tables instruction.now) false)
+            result self.old self.new }
     {
         match *instruction {
             Instruction::Spend(line) => self.spend(options, line),

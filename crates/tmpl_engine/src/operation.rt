@@ -11,7 +11,7 @@ ghost use Rattle.tmpl_code.specs.Instruction.{settle};
 ghost use Rattle.tmpl_code.specs.View.{names_seen, refusal_of};
 ghost use Rattle.tmpl_engine.specs.Cell.{fresh, slot};
 ghost use Rattle.tmpl_engine.specs.computed.Machines.{by_mode, state_of, without_bytes};
-ghost use Rattle.tmpl_engine.specs.computed.Plain.{IsPlain, SparedOr, Steady, SteadyOr, StopsIn};
+ghost use Rattle.tmpl_engine.specs.computed.Plain.{IsPlain, SparedOr, Steady, SteadyOr, SteadyUnless};
 ghost use Rattle.tmpl_engine.specs.Step as pipe;
 ghost use Rattle.tmpl_engine.specs.computed.Turned.{Executed, IsFound, TurnedOr};
 ghost use Rattle.tmpl_engine.specs.computed.View.{IsSameRoom, cells_of, size_of};
@@ -22,7 +22,7 @@ use crate::machine::Machine;
 use crate::stack::piped_count;
 use tmpl_code::{CommandError, Names, letters_at};
 use tmpl_funcs::{CallError, CallFault, Func};
-use tmpl_meaning::{MissingKey, RunFaultKind, decides, without_null};
+use tmpl_meaning::{MissingKey, RunFaultKind, decides};
 use tmpl_values::Val;
 
 /// Why a run stops at what the form of a command refuses.
@@ -151,9 +151,7 @@ impl<'m, 'a> Machine<'m, 'a> {
         requires room { length (cells_of self.old.stack) - (count + piped_count piped) < size_of self.old.stack }
         requires place { self.old.place + 1 < 2 ^ 64 }
         ensures step { TurnedOr without_bytes (act (call_with func count piped)) self.old self.new result }
-        ensures plain { makes_text func ≡ false → IsPlain self.old → SparedOr result (IsPlain self.new) }
-        ensures size { IsSameRoom self.old.stack self.new.stack }
-        ensures template { StopsIn result self.old self.new }
+        ensures steady { SteadyUnless (makes_text func) result self.old self.new }
     {
         let alloc = self.alloc;
         match self.stack.call(alloc, func, count, piped) {

@@ -4,15 +4,9 @@ use Rattle.tmpl_syntax.specs.Need.{need_of_node, need_of_nodes}
 use Rattle.tmpl_syntax.specs.Tree.{NodeKind, Nodes}
 use Rattle.tmpl_code.specs.MakesText.{node_makes_text, nodes_make_text}
 use Rattle.tmpl_code.specs.computed.Weights.{node_calls, nodes_call}
-use Rattle.tmpl_code.specs.declared.cost.Cost as held_cost
 use Rattle.tmpl_code.specs.declared.survey.Survey as held_survey
 
--- this many cells, and whether a text is made
-pub record Costs (cells : ℕ) (makes : Bool) (c : held_cost.Cost) : Type 0 where
-  pub need : c.need ≡ cells
-  pub text : c.makes_text ≡ makes
-
--- and whether a template is called
+-- this many cells, whether a text is made, and whether a template is called
 pub record Surveys (cells : ℕ) (makes calling : Bool) (s : held_survey.Survey) : Type 0 where
   pub need : s.need ≡ cells
   pub text : s.makes_text ≡ makes

@@ -1,6 +1,6 @@
 -- Whether a value of a run owns its text. One that does not is taken once more without memory, so a run in which none
 -- does wants none.
-use Rattle.std.specs.Prelude.{◌≡◌, false, take, Result, Ok, Err, OnErr}
+use Rattle.std.specs.Prelude.{◌≡◌, Bool, false, take, Result, Ok, Err, OnErr}
 use Rattle.std.specs.declared.alloc.AllocError.{AllocError}
 use Rattle.tmpl_values.specs.View.{is_made}
 use Rattle.tmpl_funcs.specs.Answer.{AreBorrowed}
@@ -45,3 +45,8 @@ StopsIn result old new = OnErr result (new.template ≡ old.template)
 abbrev pub SteadyOr : {A : Type 0} → Result A Halt → Machine → Machine → Type 0
 SteadyOr result old new =
     (IsPlain old → SparedOr result (IsPlain new)) × IsSameRoom old.stack new.stack × StopsIn result old new
+
+-- .. unless a text is made
+abbrev pub SteadyUnless : {A : Type 0} → Bool → Result A Halt → Machine → Machine → Type 0
+SteadyUnless makes result old new =
+    (makes ≡ false → IsPlain old → SparedOr result (IsPlain new)) × IsSameRoom old.stack new.stack × StopsIn result old new

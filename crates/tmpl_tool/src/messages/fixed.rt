@@ -4,7 +4,7 @@ ghost use Rattle.std.specs.Prelude.{◌≤◌, length, take, Some};
 use tmpl_values::Put;
 
 /// A text does not fit.
-#[derive(Clone, Copy, Debug)]
+#[derive(Clone, Copy)]
 pub(crate) struct Full;
 
 /// Memory that takes texts after the bytes before `end`, until one does not fit: of that it takes nothing.

@@ -14,7 +14,7 @@ use tmpl_values::{Put, put_quoted};
 const LINE_SIZE: usize = 4096;
 
 /// A part of a line.
-#[derive(Clone, Copy, Debug)]
+#[derive(Clone, Copy)]
 pub(crate) enum LinePart<'a> {
     /// A text as it is.
     Text(&'a str),

@@ -23,5 +23,6 @@ cost_of_arguments-loop-i-preserved t c =
       cost = record {
         need = rw here (cc (next, more, below, alone.need, above.need, both.need, l.invariant.cost.need));
         text = both.text ∙ (λ k. (above.text ∙ alone.text) k || rest k) ∙ sym (ap operands_make_text here);
+        calls = both.calls ∙ (λ k. (above.calls ∙ alone.calls) k || l.invariant.cost.calls k);
       };
     }

@@ -1,8 +1,8 @@
-use Rattle.std.proofs.Common.{◌≡◌, ◌≤◌, ◌+◌, ◌*◌, drop, length}
+use Rattle.std.proofs.Common.{◌≡◌, ◌≤◌, ◌+◌, ◌*◌, drop, false, length}
 use Rattle.tmpl_grammar.specs.View.{commands_in, operand_of, operands_in}
 use Rattle.tmpl_grammar.specs.Need.{need_of_commands, need_of_arguments}
 use Rattle.tmpl_code.specs.MakesText.{commands_make_text, operands_make_text}
-use Rattle.tmpl_code.specs.computed.Surveyed.{Costs}
+use Rattle.tmpl_code.specs.computed.Surveyed.{Surveys}
 use Rattle.tmpl_code.proofs.OperandLemmas.{all_weight, weight, weights}
 use Rattle.tmpl_code.proofs.cost.+pipes.Given as goal
 
@@ -30,12 +30,12 @@ decreases-cost_of_arguments-loop-i l = l.i
 abbrev pub invariant-cost_of_piped-loop-i : goal.invariant-cost_of_piped-loop-i
 invariant-cost_of_piped-loop-i l = record {
   within : l.i ≤ length l.commands;
-  cost : let cs = commands_in (drop l.i l.commands) in Costs (need_of_commands 1 cs) (commands_make_text cs) l.cost;
+  cost : let cs = commands_in (drop l.i l.commands) in Surveys (need_of_commands 1 cs) (commands_make_text cs) false l.cost;
 }
 
 abbrev pub invariant-cost_of_arguments-loop-i : goal.invariant-cost_of_arguments-loop-i
 invariant-cost_of_arguments-loop-i l = record {
   within : l.i ≤ length l.operands;
   below : l.below ≡ l.held + l.i;
-  cost : let os = operands_in (drop l.i l.operands) in Costs (need_of_arguments (l.held + l.i) os) (operands_make_text os) l.cost;
+  cost : let os = operands_in (drop l.i l.operands) in Surveys (need_of_arguments (l.held + l.i) os) (operands_make_text os) false l.cost;
 }

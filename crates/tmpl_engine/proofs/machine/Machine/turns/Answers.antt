@@ -57,35 +57,35 @@ execute-requires g c =
 pub loop-instructions-smaller : goal.loop-instructions-smaller
 loop-instructions-smaller g c = let did = c.in-Ok-On.ensures in
     (going.turned c.loop-instructions.self c.loop-instructions.invariant.stands c.args.program.now.tables _ (ap (instructions_of c.args.program.now.tables) (sym c.as_slice-instructions.ensures.value)) (i.Spend 0)
-    c.execute.new.self _ _ (Ok flow.On) (ap Ok c.in-Ok-On.field-0-is) did.step did.given did.plain).1
+    c.execute.new.self _ _ (Ok flow.On) (ap Ok c.in-Ok-On.field-0-is) did.step did.given did.steady.0).1
 
 pub loop-instructions-preserved : goal.loop-instructions-preserved
 loop-instructions-preserved g c = let did = c.in-Ok-On.ensures in record {
   taken = grows-on _ _ _ c.loop-instructions.invariant.taken did.taken;
   stands = (going.turned c.loop-instructions.self c.loop-instructions.invariant.stands c.args.program.now.tables _ (ap (instructions_of c.args.program.now.tables) (sym c.as_slice-instructions.ensures.value)) (i.Spend 0)
-      c.execute.new.self _ _ (Ok flow.On) (ap Ok c.in-Ok-On.field-0-is) did.step did.given did.plain).0;
-  size = (did.size.0 ∙ c.loop-instructions.invariant.size.0, did.size.1 ∙ c.loop-instructions.invariant.size.1);
+      c.execute.new.self _ _ (Ok flow.On) (ap Ok c.in-Ok-On.field-0-is) did.step did.given did.steady.0).0;
+  size = (did.steady.1.0 ∙ c.loop-instructions.invariant.size.0, did.steady.1.1 ∙ c.loop-instructions.invariant.size.1);
 }
 
 pub returns-in-Ok-Over-clause-left : goal.returns-in-Ok-Over-clause-left
 returns-in-Ok-Over-clause-left g c = let did = c.in-Ok-Over.ensures in
     going.turned c.loop-instructions.self c.loop-instructions.invariant.stands c.args.program.now.tables _ (ap (instructions_of c.args.program.now.tables) (sym c.as_slice-instructions.ensures.value)) (i.Spend 0)
-    c.execute.new.self _ _ (Ok flow.Over) (ap Ok c.in-Ok-Over.field-0-is) did.step did.given did.plain
+    c.execute.new.self _ _ (Ok flow.Over) (ap Ok c.in-Ok-Over.field-0-is) did.step did.given did.steady.0
 
 pub returns-in-Ok-Over-clause-taken : goal.returns-in-Ok-Over-clause-taken
 returns-in-Ok-Over-clause-taken g c = grows-on _ _ _ c.loop-instructions.invariant.taken c.in-Ok-Over.ensures.taken
 
 pub error_for-requires : goal.error_for-requires
 error_for-requires g c = record {
-  number = slice_get_within _ _ _ (ap (slice_get (set_view c.args.program.now.set.value)) c.in-Err.ensures.template ∙ (going.runs c.loop-instructions.self c.loop-instructions.invariant.stands).1);
+  number = slice_get_within _ _ _ (ap (slice_get (set_view c.args.program.now.set.value)) c.in-Err.ensures.steady.2 ∙ (going.runs c.loop-instructions.self c.loop-instructions.invariant.stands).1);
   outline = c.requires.1.1.1.1;
 }
 
 pub returns-in-Err-clause-left : goal.returns-in-Err-clause-left
 returns-in-Err-clause-left g c = let did = c.in-Err.ensures in
     going.turned c.loop-instructions.self c.loop-instructions.invariant.stands c.args.program.now.tables _ (ap (instructions_of c.args.program.now.tables) (sym c.as_slice-instructions.ensures.value)) (i.Spend 0)
-    c.execute.new.self _ _ (Err c.in-Err.stop) refl did.step did.given did.plain c.error_for.result
-    (subst (λ number. IsStopped (slice_get (set_view c.args.program.now.set.value) number) c.execute.new.self.line c.in-Err.stop c.error_for.result) did.template
+    c.execute.new.self _ _ (Err c.in-Err.stop) refl did.step did.given did.steady.0 c.error_for.result
+    (subst (λ number. IsStopped (slice_get (set_view c.args.program.now.set.value) number) c.execute.new.self.line c.in-Err.stop c.error_for.result) did.steady.2
     c.error_for.ensures)
 
 pub returns-in-Err-clause-taken : goal.returns-in-Err-clause-taken

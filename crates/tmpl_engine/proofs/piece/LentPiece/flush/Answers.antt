@@ -1,6 +1,5 @@
-use Rattle.std.proofs.Common.{[], take, ap}
+use Rattle.std.proofs.Common.{[], take}
 use Rattle.tmpl_values.proofs.PutLemmas.{IsPut-append}
-use Rattle.tmpl_meaning.specs.Sink.{Told}
 use Rattle.tmpl_engine.specs.computed.Output.{waiting}
 use Rattle.tmpl_engine.proofs.OutputLemmas.{given-on, grows-on}
 use Rattle.tmpl_engine.proofs.piece.LentPiece.flush.Goals as goal
@@ -16,5 +15,5 @@ loop-sink-preserved g c =
     record {
       given = IsPut-append {a = []} c.loop-sink.invariant.given (given-on here next (waiting s) shown (waiting c.pass.new.self) count 0 took c.waiting.ensures
           c.pass.ensures);
-      taken = grows-on _ _ _ c.loop-sink.invariant.taken (take count shown, ap (λ (t : Told). t.bytes) took);
+      taken = grows-on _ _ _ c.loop-sink.invariant.taken (take count shown, λ i. (took i).bytes);
     }
