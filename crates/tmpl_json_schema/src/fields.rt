@@ -122,6 +122,7 @@ fn required_fields(
 }
 
 /// The fields that are always there, before the rest.
+#[inline(never)]
 pub(crate) fn required_in(
     alloc: Global,
     schema: &Value,

@@ -66,6 +66,7 @@ fn listed_in(reader: &Reader<'_>, reference: &Value) -> Result<Option<Bytes>, Sc
 }
 
 /// The pointer of the `$ref` of a schema, if it has one that is one of the names.
+#[inline(never)]
 fn pointer_of(reader: &Reader<'_>, schema: &Value) -> Result<Option<Bytes>, SchemaFault>
     ensures { IfOk result (λ o. o ≡ option_and_then (listed_in reader.now.names.now) (get (codes "$ref") (view schema.now))) }
 {
@@ -153,6 +154,7 @@ fn meet_shapes(reader: &Reader<'_>, one: &Shape, other: &Shape) -> Read
 
 /// The shape of a schema that is an object.
 #[cycle(read)]
+#[inline(never)]
 fn object_shape(reader: &Reader<'_>, steps: usize, is_part: bool, schema: &Value) -> Read
     ensures { IfOk result (λ s. object_shape (context_of reader.now) (read_by reader.now steps) (part_by reader.now steps)
         (look_by reader.now steps) is_part (view schema.now) ≡ Some (shape_of s)) }
@@ -166,6 +168,7 @@ fn object_shape(reader: &Reader<'_>, steps: usize, is_part: bool, schema: &Value
 
 /// The shape of what a reference stands for, and of what stands beside it.
 #[cycle(read)]
+#[inline(never)]
 fn referred_shape(
     reader: &Reader<'_>,
     steps: usize,
@@ -232,6 +235,7 @@ fn kinds_shape(reader: &Reader<'_>, steps: usize, schema: &Value) -> Read
 }
 
 /// Refuses a `const` that the draft does not have.
+#[inline(never)]
 fn check_const(reader: &Reader<'_>, schema: &Value) -> Result<(), SchemaFault>
     ensures { OnOk result (is_unread reader.now.draft (view schema.now) ≡ false) }
 {
@@ -256,6 +260,7 @@ fn plain_shape(reader: &Reader<'_>, steps: usize, schema: &Value, kinds: Kinds) 
 
 /// The same, where there are parts of `allOf`.
 #[cycle(read)]
+#[inline(never)]
 fn with_parts(
     reader: &Reader<'_>,
     steps: usize,
@@ -355,6 +360,7 @@ pub fn chosen_by(schema: &Value) -> &'static str {
 
 /// The shape of any of these.
 #[cycle(read)]
+#[inline(never)]
 fn choice_shape(reader: &Reader<'_>, steps: usize, choices: &Value) -> Read
     ensures { IfOk result (λ s. choice_shape (read_by reader.now steps) (view choices.now)
         ≡ Some (shape_of s)) }
@@ -434,6 +440,7 @@ pub fn items_in(schema: &Value) -> Option<&Value>
 
 /// The shape of items.
 #[cycle(read)]
+#[inline(never)]
 fn items_shape(reader: &Reader<'_>, steps: usize, schema: &Value) -> Read
     ensures { IfOk result (λ s. items_shape (read_by reader.now steps) (view schema.now)
         ≡ Some (shape_of s)) }
@@ -449,6 +456,7 @@ fn items_shape(reader: &Reader<'_>, steps: usize, schema: &Value) -> Read
 
 /// The shape of fields that are not named.
 #[cycle(read)]
+#[inline(never)]
 fn additional_shape(reader: &Reader<'_>, steps: usize, schema: &Value) -> Read
     ensures { IfOk result (λ s. additional_in (read_by reader.now steps) (view schema.now)
         (get (codes "additionalProperties") (view schema.now)) ≡ Some (shape_of s)) }
@@ -513,6 +521,7 @@ fn with_each_pattern(
 
 /// The fields of a map.
 #[cycle(read)]
+#[inline(never)]
 fn fields_in(reader: &Reader<'_>, steps: usize, schema: &Value) -> Result<Fields, SchemaFault>
     ensures { IfOk result (λ fs. fields_in (read_by reader.now steps) (view schema.now)
         ≡ Some (fields_of fs)) }

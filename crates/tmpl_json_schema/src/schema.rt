@@ -26,8 +26,8 @@ use std::str::from_utf8;
 use tmpl_shape::{Base, Definition, Effort, Schema, Shape, copy_name};
 use tmpl_values::Bytes;
 
-/// How many levels of a document are read: more than JSON may have.
-const LEVELS: usize = 200;
+/// How many levels of a document are read, with those that are looked up: as many as 512 kB of stack take.
+const LEVELS: usize = 90;
 
 /// How many parts of `allOf` that are references are looked up, one in the other: past that they stand for themselves.
 const LOOKUPS: usize = 3;

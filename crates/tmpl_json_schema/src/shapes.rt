@@ -39,6 +39,7 @@ fn or_if(alloc: Global, is_asked: bool, one: Shape, other: Shape) -> Result<Shap
 }
 
 /// The values of these kinds, with these strings, at least as many such items, and such fields.
+#[inline(never)]
 pub(crate) fn by_kinds(
     alloc: Global,
     kinds: Kinds,

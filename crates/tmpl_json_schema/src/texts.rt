@@ -73,6 +73,7 @@ fn enum_texts(alloc: Global, constants: &Value) -> Result<Shape>
 }
 
 /// The strings that both leave, of which not too many are told apart.
+#[inline(never)]
 pub(crate) fn texts_in(alloc: Global, schema: &Value) -> Result<Shape>
     ensures { IfOk result (λ s. shape_of s ≡ texts_in (view schema.now)) }
 {

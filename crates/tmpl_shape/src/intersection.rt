@@ -80,6 +80,7 @@ fn leaf_within(one: &Shape, other: &Shape) -> bool
 }
 
 /// The values that are of both, where one of these is not of lists, or not of maps.
+#[inline(never)]
 fn meet_leaf(base: &Base<'_>, one: &Shape, other: &Shape) -> Result<Shape, AllocError>
     ensures { IfOk result (λ s. shape_of s ≡ meet_leaf (shape_of one.now) (shape_of other.now)) }
 {
@@ -149,6 +150,7 @@ pub fn meet(base: &Base<'_>, steps: usize, one: &Shape, other: &Shape) -> Result
 
 /// The values of a shape without alternatives that are of the other, of which each alternative is looked at.
 #[cycle(meet)]
+#[inline(never)]
 fn meet_each(base: &Base<'_>, steps: usize, one: &Shape, other: &Shape) -> Result<Shape, AllocError>
     ensures { IfOk result (λ s. shape_of s ≡ each_part (meet steps (shape_of one.now)) (meet_one (meet steps) (shape_of one.now))
         (shape_of other.now)) }
@@ -179,6 +181,7 @@ fn meet_one(base: &Base<'_>, steps: usize, one: &Shape, other: &Shape) -> Result
 
 /// The values that are of both, where each is of one kind.
 #[cycle(meet)]
+#[inline(never)]
 fn meet_forms(
     base: &Base<'_>,
     steps: usize,
