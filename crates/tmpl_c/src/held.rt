@@ -25,6 +25,17 @@ use tmpl_engine::{Engine, RenderError, Renderer};
 use tmpl_tool::{print, tell_end};
 use tmpl_values::Data;
 
+/// The settings that ask for the printed set.
+const PRINTED: Settings<'static> = Settings {
+    size: 0,
+    steps: 0,
+    depth: 0,
+    missing_key: 0,
+    print: 1,
+    output: 0,
+    writes: &[],
+};
+
 /// Prints a set, or runs the template of this name of it.
 fn run_engine(
     alloc: Global,
@@ -291,24 +302,6 @@ pub(crate) fn render_text(
     code
 }
 
-/// Prints what a set has, or nothing.
-fn print_kept(alloc: Global, set: &mut SetHandle, out: &mut Gathered, err: &mut Gathered) -> u8
-    requires out { out.old.failures < 2 ^ 64 - 1 }
-    requires err { err.old.failures < 2 ^ 64 - 1 }
-    ensures outcome { Outcome (stop_answer (printed (templates_in set.old.held)))
-        (sunk (told_of out.old) (told_of out.new)) (sunk (told_of err.old) (told_of err.new)) result }
-    ensures set { set.new.held ≡ set.old.held }
-{
-    match set.take(alloc) {
-        None => print(alloc, Engine::new(alloc).templates(), out, err).code,
-        Some(engine) => {
-            let code = print(alloc, engine.templates(), out, err).code;
-            set.put(alloc, engine);
-            code
-        }
-    }
-}
-
 /// Prints a set to a sink that holds nothing yet.
 fn gather_printed(alloc: Global, set: &mut SetHandle, out: &mut Gathered) -> u8
     requires empty { told_of out.old ≡ nothing_put }
@@ -316,7 +309,7 @@ fn gather_printed(alloc: Global, set: &mut SetHandle, out: &mut Gathered) -> u8
     ensures set { set.new.held ≡ set.old.held }
 {
     let mut line = Gathered::new(alloc, 0);
-    let code = print_kept(alloc, set, out, &mut line);
+    let code = run_set_with(alloc, &PRINTED, set, &[], None, out, &mut line);
     settle(alloc, 0, code, out, &mut line)
 }
 
