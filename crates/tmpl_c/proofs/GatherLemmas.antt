@@ -119,7 +119,7 @@ module _ (a : Answer) (all line : Bytes) (f g code : ℕ) (o : Outcome a (sunk (
       let is = limited_past a most all front.0 front.1 past in
       inr ([], sym is.0 ∙ sym cut ∙ sym (append-nil text), h.0, h.1)
 
--- ---- what is copied to lent memory
+-- ---- what is copied to the buffers of the caller
 module _ (a : Answer) (all line : Bytes) (code : ℕ) (o : Holds a all line code) (room line_room : ℕ) (out err : Seen) (puts : Fills all room out) where
   -- memory was refused
   pub refused_rendered : (status : ℕ) → Fills memory_line line_room err × (status ≡ 7) → Rendered a room out line_room err status
