@@ -11,7 +11,7 @@ use std::alloc::{AllocError, Global};
 use tmpl_values::digit;
 
 /// What is wrong, and where, in a line.
-#[derive(Clone, Copy, Debug)]
+#[derive(Clone, Copy)]
 pub struct Finding<'a> {
     pub file: &'a str,
     /// Its line, from 1, and its column, from 1 by characters.
