@@ -6,6 +6,7 @@ mod number;
 mod reader;
 
 use crate::data_check::reader::{Flaw, Reader};
+use crate::scan::place_in;
 use std::alloc::{AllocError, Global};
 use tmpl_syntax::Place;
 use tmpl_values::{Data, DataFault};
@@ -88,7 +89,7 @@ fn report(
     let mut warnings = Vec::new(alloc);
     let mut place = Place::first();
     for wrong in reader.found.into_iter() {
-        place = place.at(bytes, wrong.start.min(bytes.len()));
+        place = place_in(place, bytes, wrong.start);
         let problem = DataProblem {
             start: wrong.start,
             line: place.line,
