@@ -119,11 +119,11 @@ module _ (a : Answer) (all line : Bytes) (f g code : ℕ) (o : Outcome a (sunk (
       let is = limited_past a most all front.0 front.1 past in
       inr ([], sym is.0 ∙ sym cut ∙ sym (append-nil text), h.0, h.1)
 
--- ---- what is copied to lent memory
+-- ---- what is copied to the buffers of the caller
 module _ (a : Answer) (all line : Bytes) (code : ℕ) (o : Holds a all line code) (room line_room : ℕ) (out err : Seen) (puts : Fills all room out) where
   -- memory was refused
-  pub refused_rendered : Fills memory_line line_room err → Rendered a room out line_room err 7
-  refused_rendered says = let front = begins o in inr ((all, front.0, front.1, puts), says, refl)
+  pub refused_rendered : (status : ℕ) → Fills memory_line line_room err × (status ≡ 7) → Rendered a room out line_room err status
+  refused_rendered status said = let front = begins o in inr ((all, front.0, front.1, puts), said.0, said.1)
     where
       begins : Holds a all line code → (rest : Bytes) × (a.text ≡ all ++ rest)
       begins (inl h) = ([], sym (append-nil all ∙ h.0))
@@ -141,11 +141,11 @@ module _ (a : Answer) (all line : Bytes) (code : ℕ) (o : Holds a all line code
     fills_text = rw (sym is.0) puts
 
     -- the text does not fit
-    pub full_rendered : room < length all → Fills write_line line_room err → Rendered a room out line_room err 6
-    full_rendered more says =
+    pub full_rendered : room < length all → (status : ℕ) → Fills write_line line_room err × (status ≡ 6) → Rendered a room out line_room err status
+    full_rendered more status said =
         let same : length all ≡ length a.text = ap length is.0 in
         let no : fits room a ≡ false = lt-leb (length a.text) room (omega (arith, same, more)) in
-        inl (fills_text, rw no says, rw no refl)
+        inl (fills_text, rw no said.0, rw no said.1)
 
     -- it fits
     pub exact_rendered : length all ≤ room → Fills line line_room err → Rendered a room out line_room err code

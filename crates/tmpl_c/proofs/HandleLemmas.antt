@@ -1,4 +1,4 @@
--- For the functions of the handles: the machine values of one, which both are alike. Assumes `Logic`.
+-- For the functions of the handles: the machine values of one; all are alike. Assumes `Logic`.
 use Rattle.std.proofs.Common.{◌≡◌, ℕ, List, [], ◌∷◌, ◌++◌, refl, sym, ap, subst}
 use seplogic.Ra.Ura.{Ura}
 use mir.Raw.{raw as bare}

@@ -1,4 +1,4 @@
--- For `empty`, `of` and `open` of the handles: the walks, which are the same for both.
+-- For `empty`, `of` and `open` of the handles: the walks, which are the same for each of them.
 use Rattle.std.proofs.Common.{◌≡◌, ℕ, List, [], ◌∷◌, ◌++◌, refl, sym, ap, ◌∙◌, subst, lit<}
 use seplogic.Ra.Ura.{Ura}
 use mir.Syntax.{Body, Callee, Fn, Local, local, value_local, ty_ptr, ty_bool, place, field}
@@ -63,7 +63,7 @@ module _ (F : Handle) where
   abbrev a_pointer : Local
   a_pointer = local ty_ptr value_local
 
-  -- ---- the code of both, as it is compiled
+  -- ---- their code, as it is compiled
   abbrev plain_code : ℕ → List Local → Body → Fn
   plain_code params locals body =
       record { lifetimes = 0; outlives = []; ty_params = []; givens = 0; params = params; locals = locals; body = body }

@@ -1,4 +1,4 @@
--- For the law on what a caller sees: what lent memory holds after a render, and the settings of all zeros.
+-- For the law on what a caller sees: what the buffers of the caller hold after a render, and the settings of all zeros.
 use Rattle.std.proofs.Common.{◌≡◌, ◌≢◌, ◌∙◌, ◌<◌, ◌≤◌, ◌++◌, arith, ℕ, Bool, true, false, List, [], length, refl, subst, sym, ap, inl, inr, append_assoc}
 use Rattle.std.specs.Prelude.{Option, Some, None, eqb, leb, option_map, take, drop, if◌then◌else◌}
 use Rattle.std.proofs.lemmas.Bool.{eqb-false, leb-false, leb-true, ne_eqb}

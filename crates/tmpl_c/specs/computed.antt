@@ -1,5 +1,5 @@
 -- What private contracts alone cite.
-pub mod Extents
 pub mod Gathering
 pub mod Load
+pub mod Outputs
 pub mod Question

@@ -13,6 +13,9 @@ use tmpl_syntax::Place;
 /// The status of a text that is not of the format.
 const NOT_OF_FORMAT: u8 = 8;
 
+/// The line about a name that no format has.
+const UNKNOWN: &str = "tmpl: no such format\n";
+
 /// The line about a text that is not of the format of this name: where, and what the format has there.
 fn mistake_line(
     alloc: Global,
@@ -34,17 +37,12 @@ fn mistake_line(
         .finish()
 }
 
-/// The line about a name that no format has.
-fn unknown_line(alloc: Global) -> Result<String, AllocError> {
-    String::from_str(alloc, "tmpl: no such format\n")
-}
-
 /// The line about a text that is not of the format of this name; none where it is.
 fn line_about(alloc: Global, word: &[u8], text: &[u8]) -> Result<Option<String>, AllocError>
     ensures { IfOk result (λ line. line ≡ None → IsOfNamed word.now text.now) }
 {
     let Some(format) = Format::named(alloc, word)? else {
-        return Ok(Some(unknown_line(alloc)?));
+        return Ok(Some(String::from_str(alloc, UNKNOWN)?));
     };
     match first_mistake(alloc, &format, text)? {
         None => Ok(None),

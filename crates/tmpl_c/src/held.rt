@@ -2,20 +2,21 @@
 ghost use Rattle.std.specs.Prelude.{◌≡◌, ◌<◌, ◌^◌, ◌-◌, [], option_map};
 ghost use Rattle.tmpl_values.specs.View.{value_of};
 ghost use Rattle.tmpl_meaning.specs.Sink.{sunk};
+ghost use Rattle.tmpl_engine.specs.View.{templates_of};
 ghost use Rattle.tmpl_tool.specs.Outcome.{Outcome};
 ghost use Rattle.tmpl_tool.specs.Tool.{printed, stop_answer};
 ghost use Rattle.tmpl_c.specs.Filled.{limit_text};
 ghost use Rattle.tmpl_c.specs.Given.{HoldsBy};
 ghost use Rattle.tmpl_c.specs.Held.{templates_in, templates_run, value_in};
 ghost use Rattle.tmpl_c.specs.Texts.{Holds, bytes_in};
-ghost use Rattle.tmpl_c.specs.computed.Extents.{IsFilledBy, answer_by, run_by, templates_borrowed};
 ghost use Rattle.tmpl_c.specs.computed.Gathering.{told_of, nothing_put};
+ghost use Rattle.tmpl_c.specs.computed.Outputs.{IsFilledBy, IsSameMemory, answer_by, run_by, templates_borrowed};
 
+use crate::buffer::Buffer;
 use crate::data_handle::DataHandle;
 use crate::gathered::Gathered;
-use crate::give::give;
 use crate::program_handle::ProgramHandle;
-use crate::render::{Filled, PIECE_SIZE, fill_held, finish, settle};
+use crate::render::{PIECE_SIZE, conclude, finish, run_prepared, settle};
 use crate::set_handle::SetHandle;
 use crate::settings::{Settings, options_in};
 use crate::text::Text;
@@ -24,23 +25,60 @@ use tmpl_engine::{Engine, RenderError, Renderer};
 use tmpl_tool::{print, tell_end};
 use tmpl_values::Data;
 
-/// Renders a set that is kept, or one of no templates, with this data.
-fn render_with(
+/// The settings that ask for the printed set.
+const PRINTED: Settings<'static> = Settings {
+    size: 0,
+    steps: 0,
+    depth: 0,
+    missing_key: 0,
+    print: 1,
+    output: 0,
+    writes: &[],
+};
+
+/// Prints a set, or runs the template of this name of it.
+fn run_engine(
+    alloc: Global,
+    settings: &Settings<'_>,
+    engine: &mut Engine,
+    name: &[u8],
+    data: Option<&Data>,
+    out: &mut Gathered,
+    err: &mut Gathered,
+) -> u8
+    requires out { out.old.failures < 2 ^ 64 - 1 }
+    requires err { err.old.failures < 2 ^ 64 - 1 }
+    ensures outcome { Outcome
+        (answer_by settings.now (templates_of engine.old) name.now (option_map (λ d. value_of d.now) «data».entry))
+        (sunk (told_of out.old) (told_of out.new)) (sunk (told_of err.old) (told_of err.new)) result }
+    ensures same { engine.new ≡ engine.old }
+{
+    if settings.print == 1 {
+        return print(alloc, engine.templates(), out, err).code;
+    }
+    let prepared = engine.renderer_for(alloc, name);
+    run_prepared(alloc, settings, prepared, name, data, out, err)
+}
+
+/// Prints a set that is kept, or one of no templates, or runs the template of this name of it.
+fn run_set_with(
     alloc: Global,
     settings: &Settings<'_>,
     set: &mut SetHandle,
-    data: Option<&Data>,
     name: &[u8],
-    out: &mut [u8],
-    err: &mut [u8],
-) -> Filled
-    ensures outcome { IsFilledBy settings.now.writes.now (limit_text settings.now.output
-        (answer_by settings.now (templates_in set.old.held) name.now (option_map (λ d. value_of d.now) «data».entry)))
-        out.old out.new err.old err.new result }
+    data: Option<&Data>,
+    out: &mut Gathered,
+    err: &mut Gathered,
+) -> u8
+    requires out { out.old.failures < 2 ^ 64 - 1 }
+    requires err { err.old.failures < 2 ^ 64 - 1 }
+    ensures outcome { Outcome
+        (answer_by settings.now (templates_in set.old.held) name.now (option_map (λ d. value_of d.now) «data».entry))
+        (sunk (told_of out.old) (told_of out.new)) (sunk (told_of err.old) (told_of err.new)) result }
     ensures set { set.new.held ≡ set.old.held }
 {
     match set.take(alloc) {
-        None => fill_held(
+        None => run_engine(
             alloc,
             settings,
             &mut Engine::new(alloc),
@@ -50,37 +88,61 @@ fn render_with(
             err,
         ),
         Some(mut kept) => {
-            let told = fill_held(alloc, settings, &mut kept, name, data, out, err);
+            let code = run_engine(alloc, settings, &mut kept, name, data, out, err);
             set.put(alloc, kept);
-            told
+            code
         }
     }
 }
 
-/// Renders what is kept into the caller's buffers. It is taken out for that, and put back.
-pub(crate) fn render(
+/// Does so with data that is kept. Both are taken out for that, and put back.
+fn run_set(
     alloc: Global,
     settings: &Settings<'_>,
     set: &mut SetHandle,
     data: &mut DataHandle,
     name: &[u8],
-    out: &mut [u8],
-    err: &mut [u8],
-) -> Filled
-    ensures outcome { IsFilledBy settings.now.writes.now (limit_text settings.now.output
-        (answer_by settings.now (templates_in set.old.held) name.now (value_in «data».old.held)))
-        out.old out.new err.old err.new result }
+    out: &mut Gathered,
+    err: &mut Gathered,
+) -> u8
+    requires out { out.old.failures < 2 ^ 64 - 1 }
+    requires err { err.old.failures < 2 ^ 64 - 1 }
+    ensures outcome { Outcome (answer_by settings.now (templates_in set.old.held) name.now (value_in «data».old.held))
+        (sunk (told_of out.old) (told_of out.new)) (sunk (told_of err.old) (told_of err.new)) result }
     ensures set { set.new.held ≡ set.old.held }
     ensures kept { «data».new.held ≡ «data».old.held }
 {
     match data.take(alloc) {
-        None => render_with(alloc, settings, set, None, name, out, err),
+        None => run_set_with(alloc, settings, set, name, None, out, err),
         Some(kept) => {
-            let told = render_with(alloc, settings, set, Some(&kept.data), name, out, err);
+            let code = run_set_with(alloc, settings, set, name, Some(&kept.data), out, err);
             data.put(alloc, kept);
-            told
+            code
         }
     }
+}
+
+/// Renders what is kept into the caller's buffers.
+pub(crate) fn render_set(
+    alloc: Global,
+    settings: &Settings<'_>,
+    set: &mut SetHandle,
+    data: &mut DataHandle,
+    name: &[u8],
+    out: &mut Buffer<'_>,
+    err: &mut Buffer<'_>,
+) -> u8
+    ensures filled { IsFilledBy settings.now.writes.now (limit_text settings.now.output
+        (answer_by settings.now (templates_in set.old.held) name.now (value_in «data».old.held)))
+        out.old out.new err.old err.new result }
+    ensures borrows { IsSameMemory out.old out.new × IsSameMemory err.old err.new }
+    ensures set { set.new.held ≡ set.old.held }
+    ensures kept { «data».new.held ≡ «data».old.held }
+{
+    let mut text = Gathered::new(alloc, settings.output);
+    let mut line = Gathered::new(alloc, 0);
+    let code = run_set(alloc, settings, set, data, name, &mut text, &mut line);
+    finish(alloc, settings, code, text, line, out, err)
 }
 
 /// Runs the template of this name of a program, or of one of no templates.
@@ -173,12 +235,13 @@ pub(crate) fn render_program(
     program: &mut ProgramHandle,
     data: &mut DataHandle,
     name: &[u8],
-    out: &mut [u8],
-    err: &mut [u8],
-) -> Filled
-    ensures outcome { IsFilledBy settings.now.writes.now (limit_text settings.now.output
+    out: &mut Buffer<'_>,
+    err: &mut Buffer<'_>,
+) -> u8
+    ensures filled { IsFilledBy settings.now.writes.now (limit_text settings.now.output
         (run_by settings.now (templates_run program.old.held) name.now (value_in «data».old.held)))
         out.old out.new err.old err.new result }
+    ensures borrows { IsSameMemory out.old out.new × IsSameMemory err.old err.new }
     ensures program { program.new.held ≡ program.old.held }
     ensures kept { «data».new.held ≡ «data».old.held }
 {
@@ -206,8 +269,7 @@ fn gather(
     ensures kept { «data».new.held ≡ «data».old.held }
 {
     let code = run_program(alloc, settings, program, data, name, out, err);
-    let status = settle(alloc, settings.output, code, out, err);
-    give(alloc, settings.writes, status, out, err)
+    conclude(alloc, settings, code, out, err)
 }
 
 /// Renders a program into texts of the library's own.
@@ -240,24 +302,6 @@ pub(crate) fn render_text(
     code
 }
 
-/// Prints what a set has, or nothing.
-fn print_kept(alloc: Global, set: &mut SetHandle, out: &mut Gathered, err: &mut Gathered) -> u8
-    requires out { out.old.failures < 2 ^ 64 - 1 }
-    requires err { err.old.failures < 2 ^ 64 - 1 }
-    ensures outcome { Outcome (stop_answer (printed (templates_in set.old.held)))
-        (sunk (told_of out.old) (told_of out.new)) (sunk (told_of err.old) (told_of err.new)) result }
-    ensures set { set.new.held ≡ set.old.held }
-{
-    match set.take(alloc) {
-        None => print(alloc, Engine::new(alloc).templates(), out, err).code,
-        Some(engine) => {
-            let code = print(alloc, engine.templates(), out, err).code;
-            set.put(alloc, engine);
-            code
-        }
-    }
-}
-
 /// Prints a set to a sink that holds nothing yet.
 fn gather_printed(alloc: Global, set: &mut SetHandle, out: &mut Gathered) -> u8
     requires empty { told_of out.old ≡ nothing_put }
@@ -265,7 +309,7 @@ fn gather_printed(alloc: Global, set: &mut SetHandle, out: &mut Gathered) -> u8
     ensures set { set.new.held ≡ set.old.held }
 {
     let mut line = Gathered::new(alloc, 0);
-    let code = print_kept(alloc, set, out, &mut line);
+    let code = run_set_with(alloc, &PRINTED, set, &[], None, out, &mut line);
     settle(alloc, 0, code, out, &mut line)
 }
 

@@ -1,76 +1,56 @@
 //! What is offered is kept, or said why not.
-ghost use Rattle.std.specs.Prelude.{◌≡◌, [], IfErr, IfOk, Some, codes, length};
+ghost use Rattle.std.specs.Prelude.{◌≡◌, [], IfErr, IfOk, Some, codes};
 ghost use Rattle.tmpl_values.specs.View.{value_of};
 ghost use Rattle.tmpl_syntax.specs.computed.Parse.{parsed};
 ghost use Rattle.tmpl_engine.specs.View.{templates_of};
 ghost use Rattle.tmpl_tool.specs.Inputs.{said_of};
-ghost use Rattle.tmpl_tool.specs.Outcome.{memory_line};
-ghost use Rattle.tmpl_c.specs.Filled.{Fills};
+ghost use Rattle.tmpl_c.specs.Filled.{Fills, buffer_seen, room};
 ghost use Rattle.tmpl_c.specs.Held.{Keeps, Replaces, templates_in, templates_run, value_in};
 ghost use Rattle.tmpl_c.specs.Passed.{data_passed, pair_of, with_passed};
-ghost use Rattle.tmpl_c.specs.computed.Extents.{extent_seen};
 ghost use Rattle.tmpl_c.specs.computed.Load.{IsSaid, halt_seen};
+ghost use Rattle.tmpl_c.specs.computed.Outputs.{IsSameMemory};
 
+use crate::buffer::Buffer;
 use crate::data_handle::DataHandle;
 use crate::gathered::Gathered;
 use crate::load::{Halt, add_file, read_data, tell};
 use crate::passed::File;
 use crate::program_handle::ProgramHandle;
-use crate::render::{Extent, copy_to, say_refused};
+use crate::render::say_refused;
 use crate::set_handle::SetHandle;
 use crate::shared_data::SharedData;
 use std::alloc::{AllocError, Global};
 use tmpl_engine::{Engine, NameHash};
 use tmpl_values::Data;
 
-/// The message about an offer.
-#[derive(Clone, Copy)]
-pub(crate) struct Said {
-    pub(crate) status: u8,
-    pub(crate) line: Extent,
-}
-
 /// Says nothing.
-fn say_kept(err: &mut [u8]) -> Said
-    ensures line { Fills [] (length err.old) (extent_seen err.new result.line) }
-    ensures status { result.status ≡ 0 }
+fn say_kept(err: &mut Buffer<'_>) -> u8
+    ensures said { Fills [] (room err.old) (buffer_seen err.new) × (result ≡ 0) }
+    ensures borrows { IsSameMemory err.old err.new }
 {
-    Said {
-        status: 0,
-        line: copy_to(err, b""),
-    }
-}
-
-/// Says that memory ran out.
-fn say_no_memory(err: &mut [u8]) -> Said
-    ensures line { Fills memory_line (length err.old) (extent_seen err.new result.line) }
-    ensures status { result.status ≡ 7 }
-{
-    Said {
-        status: 7,
-        line: say_refused(err),
-    }
+    err.hold(b"");
+    0
 }
 
 /// Says why nothing is kept.
-fn say(alloc: Global, why: &Halt<'_>, err: &mut [u8]) -> Said
-    ensures { IsSaid (said_of (halt_seen why.now)) (length err.old) (extent_seen err.new result.line) result.status }
+fn say(alloc: Global, why: &Halt<'_>, err: &mut Buffer<'_>) -> u8
+    ensures said { IsSaid (said_of (halt_seen why.now)) (room err.old) (buffer_seen err.new) result }
+    ensures borrows { IsSameMemory err.old err.new }
 {
     let mut line = Gathered::new(alloc, 0);
     let code = tell(&mut line, why);
     if line.failures != 0 {
-        return say_no_memory(err);
+        return say_refused(err);
     }
-    Said {
-        status: code,
-        line: copy_to(err, line.bytes.as_slice()),
-    }
+    err.hold(line.bytes.as_slice());
+    code
 }
 
 /// Adds the templates of a file to a set, or says why not.
-fn add_to(alloc: Global, engine: &mut Engine, file: &File<'_>, err: &mut [u8]) -> Said
-    ensures { Keeps (with_passed parsed (templates_of engine.old) (pair_of file.now)) (templates_of engine.old) (templates_of engine.new)
-        (length err.old) (extent_seen err.new result.line) result.status }
+fn add_to(alloc: Global, engine: &mut Engine, file: &File<'_>, err: &mut Buffer<'_>) -> u8
+    ensures outcome { Keeps (with_passed parsed (templates_of engine.old) (pair_of file.now)) (templates_of engine.old) (templates_of engine.new)
+        (room err.old) (buffer_seen err.new) result }
+    ensures borrows { IsSameMemory err.old err.new }
 {
     match add_file(alloc, engine, file) {
         Ok(()) => say_kept(err),
@@ -84,17 +64,18 @@ pub(crate) fn add(
     hash: NameHash,
     kept: &mut SetHandle,
     file: &File<'_>,
-    err: &mut [u8],
-) -> Said
-    ensures { Keeps (with_passed parsed (templates_in kept.old.held) (pair_of file.now))
+    err: &mut Buffer<'_>,
+) -> u8
+    ensures outcome { Keeps (with_passed parsed (templates_in kept.old.held) (pair_of file.now))
         (templates_in kept.old.held) (templates_in kept.new.held)
-        (length err.old) (extent_seen err.new result.line) result.status }
+        (room err.old) (buffer_seen err.new) result }
+    ensures borrows { IsSameMemory err.old err.new }
 {
     let mut engine = match kept.take(alloc) {
         Some(engine) => engine,
         None => match Box::new(alloc, Engine::with_hash(alloc, hash)) {
             Ok(engine) => engine,
-            Err(_) => return say_no_memory(err),
+            Err(_) => return say_refused(err),
         },
     };
     let said = add_to(alloc, &mut engine, file, err);
@@ -112,9 +93,10 @@ fn keep_value(alloc: Global, kept: &mut DataHandle, value: Data) -> Result<(), A
 }
 
 /// Keeps data, or says why not.
-pub(crate) fn read(alloc: Global, kept: &mut DataHandle, input: &[u8], err: &mut [u8]) -> Said
-    ensures { Keeps (data_passed (codes "data") input.now) (value_in kept.old.held) (value_in kept.new.held)
-        (length err.old) (extent_seen err.new result.line) result.status }
+pub(crate) fn read(alloc: Global, kept: &mut DataHandle, input: &[u8], err: &mut Buffer<'_>) -> u8
+    ensures outcome { Keeps (data_passed (codes "data") input.now) (value_in kept.old.held) (value_in kept.new.held)
+        (room err.old) (buffer_seen err.new) result }
+    ensures borrows { IsSameMemory err.old err.new }
 {
     match read_data(alloc, input) {
         Ok(None) => {
@@ -123,7 +105,7 @@ pub(crate) fn read(alloc: Global, kept: &mut DataHandle, input: &[u8], err: &mut
         }
         Ok(Some(value)) => {
             let Ok(()) = keep_value(alloc, kept, value) else {
-                return say_no_memory(err);
+                return say_refused(err);
             };
             say_kept(err)
         }

@@ -78,21 +78,7 @@ pub extern "C" fn keyed_render(
     ensures borrows { (out.new.bytes.ghost_name ≡ out.old.bytes.ghost_name)
         × (err.new.bytes.ghost_name ≡ err.old.bytes.ghost_name) }
 {
-    let told = render::fill(
-        alloc,
-        keys.hash(),
-        settings,
-        files,
-        name,
-        input,
-        out.bytes,
-        err.bytes,
-    );
-    out.taken = told.text.taken;
-    out.needed = told.text.needed;
-    err.taken = told.line.taken;
-    err.needed = told.line.needed;
-    told.status
+    render::fill(alloc, keys.hash(), settings, files, name, input, out, err)
 }
 
 /// Reports what is wrong in files, added one after the other, in a text that the library owns: a line for each error, as
@@ -143,10 +129,7 @@ pub extern "C" fn keyed_set_add(
         (templates_in set.old.held) (templates_in set.new.held) (room err.old) (buffer_seen err.new) result }
     ensures borrows { err.new.bytes.ghost_name ≡ err.old.bytes.ghost_name }
 {
-    let said = keep::add(alloc, keys.hash(), set, file, err.bytes);
-    err.taken = said.line.taken;
-    err.needed = said.line.needed;
-    said.status
+    keep::add(alloc, keys.hash(), set, file, err)
 }
 
 /// Frees a set, which has no templates then.
@@ -170,10 +153,7 @@ pub extern "C" fn tmpl_data_read(
         (room err.old) (buffer_seen err.new) result }
     ensures borrows { err.new.bytes.ghost_name ≡ err.old.bytes.ghost_name }
 {
-    let said = keep::read(alloc, kept, input, err.bytes);
-    err.taken = said.line.taken;
-    err.needed = said.line.needed;
-    said.status
+    keep::read(alloc, kept, input, err)
 }
 
 /// Frees data, which is none then.
@@ -217,12 +197,7 @@ pub extern "C" fn inner_render_set(
     ensures set { set.new.held ≡ set.old.held }
     ensures kept { kept.new.held ≡ kept.old.held }
 {
-    let came = held::render(alloc, settings, set, kept, name, out.bytes, err.bytes);
-    out.taken = came.text.taken;
-    out.needed = came.text.needed;
-    err.taken = came.line.taken;
-    err.needed = came.line.needed;
-    came.status
+    held::render_set(alloc, settings, set, kept, name, out, err)
 }
 
 /// Prints a set into a text that the library owns. The status is 0, or 7 where memory ran out: then the text is a
@@ -293,12 +268,7 @@ pub extern "C" fn inner_render_program(
     ensures program { program.new.held ≡ program.old.held }
     ensures kept { kept.new.held ≡ kept.old.held }
 {
-    let done = held::render_program(alloc, settings, program, kept, name, out.bytes, err.bytes);
-    out.taken = done.text.taken;
-    out.needed = done.text.needed;
-    err.taken = done.line.taken;
-    err.needed = done.line.needed;
-    done.status
+    held::render_program(alloc, settings, program, kept, name, out, err)
 }
 
 /// Does what `tmpl_render_program` does, and keeps text and line in memory of the library's own, which is used again by

@@ -2,7 +2,7 @@
 
 /// A template file in memory.
 #[repr(C)]
-#[derive(Clone, Copy, Debug)]
+#[derive(Clone, Copy)]
 pub struct File<'a> {
     /// Its path, as a text: the template of the file itself is named by the last part of it.
     pub name: &'a [u8],
@@ -11,14 +11,14 @@ pub struct File<'a> {
 
 /// The name of a template.
 #[repr(C)]
-#[derive(Clone, Copy, Debug)]
+#[derive(Clone, Copy)]
 pub struct Name<'a> {
     pub bytes: &'a [u8],
 }
 
 /// What is asked of a template: whether it may fail over data of a JSON Schema.
 #[repr(C)]
-#[derive(Clone, Copy, Debug)]
+#[derive(Clone, Copy)]
 pub struct Question<'a> {
     /// The schema, and the name by which findings call it.
     pub schema: File<'a>,

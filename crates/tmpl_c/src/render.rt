@@ -1,18 +1,19 @@
 //! A render into the caller's buffers.
-ghost use Rattle.std.specs.Prelude.{◌≡◌, ◌≢◌, ◌⊎◌, ◌<◌, ◌^◌, ◌-◌, ◌||◌, IfOk, List, [], eqb, false, leb, length, option_map, string_bytes};
+ghost use Rattle.std.specs.Prelude.{◌≡◌, ◌≢◌, ◌⊎◌, ◌<◌, ◌^◌, ◌-◌, ◌||◌, IfOk, List, [], eqb, false, leb, option_map, string_bytes};
 ghost use Rattle.tmpl_values.specs.View.{value_of};
 ghost use Rattle.tmpl_syntax.specs.Set.{Template};
 ghost use Rattle.tmpl_meaning.specs.Sink.{sunk};
 ghost use Rattle.tmpl_engine.specs.Prepared.{IsPrepared};
-ghost use Rattle.tmpl_engine.specs.View.{templates_of};
 ghost use Rattle.tmpl_tool.specs.Outcome.{Answer, Outcome, memory_line, write_line};
 ghost use Rattle.tmpl_tool.specs.Tool.{IsParse, Parse, answer_of, named_run};
-ghost use Rattle.tmpl_c.specs.Filled.{Fills, limit_line, limit_text};
+ghost use Rattle.tmpl_c.specs.Filled.{Fills, buffer_seen, limit_line, limit_text, room};
+ghost use Rattle.tmpl_c.specs.Given.{HoldsBy};
 ghost use Rattle.tmpl_c.specs.Passed.{pairs_of, render_answer, rules_in};
 ghost use Rattle.tmpl_c.specs.Texts.{Holds};
-ghost use Rattle.tmpl_c.specs.computed.Extents.{IsFilled, IsFilledBy, answer_by, extent_seen};
 ghost use Rattle.tmpl_c.specs.computed.Gathering.{told_of, nothing_put};
+ghost use Rattle.tmpl_c.specs.computed.Outputs.{IsFilled, IsFilledBy, IsSameMemory};
 
+use crate::buffer::Buffer;
 use crate::gathered::Gathered;
 use crate::give::give;
 use crate::load::{add_files, read_data, tell};
@@ -32,21 +33,6 @@ static FULL: &[u8] = b"tmpl: write failed\n";
 
 /// The line where memory ran out, which is there when none can be had.
 static REFUSED: &[u8] = b"tmpl: out of memory\n";
-
-/// How much output a buffer holds, and how much there is.
-#[derive(Clone, Copy)]
-pub(crate) struct Extent {
-    pub(crate) taken: usize,
-    pub(crate) needed: usize,
-}
-
-/// What a render came to.
-#[derive(Clone, Copy)]
-pub(crate) struct Filled {
-    pub(crate) status: u8,
-    pub(crate) text: Extent,
-    pub(crate) line: Extent,
-}
 
 /// Renders the template of this name to two sinks.
 fn render_to(
@@ -84,7 +70,7 @@ fn render_to(
 }
 
 /// Runs the template of this name with what its render was prepared with.
-fn run_prepared(
+pub(crate) fn run_prepared(
     alloc: Global,
     settings: &Settings<'_>,
     prepared: Result<Renderer, RenderError<'_>>,
@@ -170,57 +156,55 @@ pub(crate) fn settle(
     code
 }
 
-/// Copies as many of the bytes to memory as there is room for.
-pub(crate) fn copy_to(memory: &mut [u8], bytes: &[u8]) -> Extent
-    ensures { Fills bytes.now (length memory.old) (extent_seen memory.new result) }
+/// The status of a render whose text and line are gathered. The text is cut at the limit of the settings, and is given only
+/// where it is of their format.
+pub(crate) fn conclude(
+    alloc: Global,
+    settings: &Settings<'_>,
+    code: u8,
+    text: &mut Gathered,
+    line: &mut Gathered,
+) -> u8
+    ensures { (a : Answer) → Outcome a (sunk nothing_put (told_of text.old)) (sunk nothing_put (told_of line.old)) code
+        → HoldsBy settings.now.writes.now (limit_text settings.now.output a) text.new.bytes.items line.new.bytes.items result }
 {
-    let taken = memory.len().min(bytes.len());
-    memory[..taken].copy_from_slice(&bytes[..taken]);
-    Extent {
-        taken,
-        needed: bytes.len(),
-    }
+    let status = settle(alloc, settings.output, code, text, line);
+    give(alloc, settings.writes, status, text, line)
 }
 
-/// Says in the caller's buffers that a text does not fit.
-fn say_full(err: &mut [u8]) -> Extent
-    ensures { Fills write_line (length err.old) (extent_seen err.new result) }
+/// Says in the caller's buffer that a text does not fit, and gives the status of that.
+fn say_full(err: &mut Buffer<'_>) -> u8
+    ensures said { Fills write_line (room err.old) (buffer_seen err.new) × (result ≡ 6) }
+    ensures borrows { IsSameMemory err.old err.new }
 {
-    copy_to(err, FULL)
+    err.hold(FULL);
+    6
 }
 
-/// Says in the caller's buffers that memory ran out.
-pub(crate) fn say_refused(err: &mut [u8]) -> Extent
-    ensures { Fills memory_line (length err.old) (extent_seen err.new result) }
+/// Says in the caller's buffer that memory ran out, and gives the status of that.
+pub(crate) fn say_refused(err: &mut Buffer<'_>) -> u8
+    ensures said { Fills memory_line (room err.old) (buffer_seen err.new) × (result ≡ 7) }
+    ensures borrows { IsSameMemory err.old err.new }
 {
-    copy_to(err, REFUSED)
+    err.hold(REFUSED);
+    7
 }
 
 /// Copies a text and a line to the caller's buffers, and says why the text is not all there.
-fn hand_over(code: u8, text: &[u8], line: &[u8], out: &mut [u8], err: &mut [u8]) -> Filled
-    ensures { (a : Answer) → Holds a text.now line.now code → IsFilled a out.old out.new err.old err.new result }
+fn hand_over(code: u8, text: &[u8], line: &[u8], out: &mut Buffer<'_>, err: &mut Buffer<'_>) -> u8
+    ensures filled { (a : Answer) → Holds a text.now line.now code → IsFilled a out.old out.new err.old err.new result }
+    ensures borrows { IsSameMemory out.old out.new × IsSameMemory err.old err.new }
 {
-    let room = out.len();
-    let put = copy_to(out, text);
+    let room = out.bytes.len();
+    out.hold(text);
     if code == 7 {
-        return Filled {
-            status: 7,
-            text: put,
-            line: say_refused(err),
-        };
+        return say_refused(err);
     }
     if room < text.len() {
-        return Filled {
-            status: 6,
-            text: put,
-            line: say_full(err),
-        };
+        return say_full(err);
     }
-    Filled {
-        status: code,
-        text: put,
-        line: copy_to(err, line),
-    }
+    err.hold(line);
+    code
 }
 
 /// Copies what was gathered to the caller's buffers, of the text what the settings let through, and says why it is not
@@ -231,14 +215,14 @@ pub(crate) fn finish(
     code: u8,
     mut text: Gathered,
     mut line: Gathered,
-    out: &mut [u8],
-    err: &mut [u8],
-) -> Filled
-    ensures { (a : Answer) → Outcome a (sunk nothing_put (told_of text)) (sunk nothing_put (told_of line)) code
+    out: &mut Buffer<'_>,
+    err: &mut Buffer<'_>,
+) -> u8
+    ensures filled { (a : Answer) → Outcome a (sunk nothing_put (told_of text)) (sunk nothing_put (told_of line)) code
         → IsFilledBy settings.now.writes.now (limit_text settings.now.output a) out.old out.new err.old err.new result }
+    ensures borrows { IsSameMemory out.old out.new × IsSameMemory err.old err.new }
 {
-    let status = settle(alloc, settings.output, code, &mut text, &mut line);
-    let status = give(alloc, settings.writes, status, &mut text, &mut line);
+    let status = conclude(alloc, settings, code, &mut text, &mut line);
     hand_over(
         status,
         text.bytes.as_slice(),
@@ -256,62 +240,18 @@ pub(crate) fn fill(
     files: &[File<'_>],
     name: &[u8],
     input: &[u8],
-    out: &mut [u8],
-    err: &mut [u8],
-) -> Filled
-    ensures { (parse : Parse) → IsParse parse → IsFilledBy settings.now.writes.now (limit_text settings.now.output
+    out: &mut Buffer<'_>,
+    err: &mut Buffer<'_>,
+) -> u8
+    ensures filled { (parse : Parse) → IsParse parse → IsFilledBy settings.now.writes.now (limit_text settings.now.output
         (render_answer parse (rules_in settings.now) (eqb settings.now.print 1) (pairs_of files.now) name.now input.now))
         out.old out.new err.old err.new result }
+    ensures borrows { IsSameMemory out.old out.new × IsSameMemory err.old err.new }
 {
     let mut text = Gathered::new(alloc, settings.output);
     let mut line = Gathered::new(alloc, 0);
     let code = render_to(
         alloc, hash, settings, files, name, input, &mut text, &mut line,
     );
-    finish(alloc, settings, code, text, line, out, err)
-}
-
-/// Prints a set, or runs the template of this name of it.
-fn render_held(
-    alloc: Global,
-    settings: &Settings<'_>,
-    engine: &mut Engine,
-    name: &[u8],
-    data: Option<&Data>,
-    out: &mut Gathered,
-    err: &mut Gathered,
-) -> u8
-    requires out { out.old.failures < 2 ^ 64 - 1 }
-    requires err { err.old.failures < 2 ^ 64 - 1 }
-    ensures outcome { Outcome
-        (answer_by settings.now (templates_of engine.old) name.now (option_map (λ d. value_of d.now) «data».entry))
-        (sunk (told_of out.old) (told_of out.new)) (sunk (told_of err.old) (told_of err.new)) result }
-    ensures same { engine.new ≡ engine.old }
-{
-    if settings.print == 1 {
-        return print(alloc, engine.templates(), out, err).code;
-    }
-    let prepared = engine.renderer_for(alloc, name);
-    run_prepared(alloc, settings, prepared, name, data, out, err)
-}
-
-/// Renders what is kept into the caller's buffers, and says why the text is not all there.
-pub(crate) fn fill_held(
-    alloc: Global,
-    settings: &Settings<'_>,
-    engine: &mut Engine,
-    name: &[u8],
-    data: Option<&Data>,
-    out: &mut [u8],
-    err: &mut [u8],
-) -> Filled
-    ensures outcome { IsFilledBy settings.now.writes.now (limit_text settings.now.output
-        (answer_by settings.now (templates_of engine.old) name.now (option_map (λ d. value_of d.now) «data».entry)))
-        out.old out.new err.old err.new result }
-    ensures same { engine.new ≡ engine.old }
-{
-    let mut text = Gathered::new(alloc, settings.output);
-    let mut line = Gathered::new(alloc, 0);
-    let code = render_held(alloc, settings, engine, name, data, &mut text, &mut line);
     finish(alloc, settings, code, text, line, out, err)
 }

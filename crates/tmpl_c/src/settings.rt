@@ -8,7 +8,7 @@ use tmpl_tool::{DEFAULT_DEPTH, DEFAULT_STEPS, MOST_DEPTH, MOST_STEPS};
 
 /// How a template is to be run. All zeros ask for the defaults.
 #[repr(C)]
-#[derive(Clone, Copy, Debug)]
+#[derive(Clone, Copy)]
 pub struct Settings<'a> {
     /// How many bytes the caller has of it, which is looked at before: here all of it is there.
     pub size: usize,

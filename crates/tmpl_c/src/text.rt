@@ -83,10 +83,7 @@ impl Text {
                 kept.empty(limit);
                 Some(kept)
             }
-            None => match Box::new(alloc, Gathered::new(alloc, limit)) {
-                Ok(empty) => Some(empty),
-                Err(_) => None,
-            },
+            None => Box::new(alloc, Gathered::new(alloc, limit)).ok(),
         }
     }
 }

@@ -1,6 +1,7 @@
 -- A string as it is written in a line, character by character.
 use Rattle.std.proofs.Common.{◌≡◌, ◌∙◌, ◌++◌, ℕ, List, [], encode_utf8, refl, sym, ap, append_assoc, append-nil}
 use Rattle.std.proofs.Common.{Result, Ok, Err, OnOk}
+use Rattle.std.specs.Prelude.{is_ok, if◌then◌else◌}
 use Rattle.std.proofs.lemmas.Str.{chars_past_char, chars-nil, IsUtf8-past_char}
 use Rattle.std.specs.Str.{IsUtf8}
 use Rattle.tmpl_problems.specs.Line.{shown_char, shown_in_line}
@@ -20,6 +21,6 @@ pub shown_end : (rest done all : List ℕ) → rest ≡ [] → done ++ shown_in_
 shown_end rest done all p h = sym (append-nil done) ∙ ap (λ t. done ++ t) (sym (ap shown_in_line p ∙ rw (chars-nil) refl)) ∙ h
 
 pub line_parts : {E : Type 0} (r : Result Unit E) (old file place text end one two three four : List ℕ) → one ≡ old ++ file → two ≡ one ++ place
-    → three ≡ two ++ text → OnOk r (four ≡ three ++ end) → OnOk r (four ≡ old ++ (file ++ (place ++ (text ++ end))))
+    → three ≡ two ++ text → four ≡ (if is_ok r then three ++ end else three) → OnOk r (four ≡ old ++ (file ++ (place ++ (text ++ end))))
 line_parts (Ok u) old file place text end one two three four a b d h = rw (h, d, b, a, append_assoc, append_assoc, append_assoc) refl
 line_parts (Err e) old file place text end one two three four a b d h = tt

@@ -196,7 +196,13 @@ pub record Found : Type 0 where
   pub variables : List (Bor (List ℕ) × Variable)
 
 abbrev pub found_in : Surveyor → Found
-found_in s = record { warnings = s.warnings.items; failing = s.failing.items; defined = s.defined.items; called = s.called.items; variables = s.variables.entries }
+found_in s = record {
+  warnings = s.survey.warnings.items;
+  failing = s.survey.failing.items;
+  defined = s.survey.defined.items;
+  called = s.survey.called.items;
+  variables = s.variables.entries;
+}
 
 module _ (file : List ℕ) where
   pub record Exact (pieces : List Piece) (f : Found) : Type 0 where

@@ -21,14 +21,15 @@ const MOST_BYTES: usize = 200;
 pub(crate) fn failing_text(alloc: Global, failing: Failing<'_>) -> Result<String, AllocError> {
     let said = Sentence::new(alloc).say("always fails: ");
     match failing {
-        Failing::Command(operands, true) => say_command(alloc, said, operands, true)?.finish(),
-        Failing::Command(operands, false) => {
-            let said = say_command(alloc, said, operands, false)?;
+        Failing::Command(operands, is_piped) => {
+            let said = say_command(alloc, said, operands, is_piped)?;
+            if is_piped {
+                return said.finish();
+            }
             say_cure(alloc, said, operands)?.finish()
         }
         Failing::Argument(operands, func) => {
-            let said = say_misplaced(said, func);
-            say_cure(alloc, said, operands)?.finish()
+            say_cure(alloc, say_misplaced(said, func), operands)?.finish()
         }
     }
 }

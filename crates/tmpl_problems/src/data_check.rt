@@ -6,12 +6,13 @@ mod number;
 mod reader;
 
 use crate::data_check::reader::{Flaw, Reader};
+use crate::scan::place_in;
 use std::alloc::{AllocError, Global};
 use tmpl_syntax::Place;
 use tmpl_values::{Data, DataFault};
 
 /// What is wrong at a place of a data file, or only suspicious.
-#[derive(Debug, Drop)]
+#[derive(Drop)]
 pub struct DataProblem {
     /// How many bytes of the file stand before it.
     pub start: usize,
@@ -23,7 +24,7 @@ pub struct DataProblem {
 }
 
 /// Why bytes are no data.
-#[derive(Clone, Copy, Debug)]
+#[derive(Clone, Copy)]
 pub enum DataReason {
     NotJson,
     NotWhole,
@@ -31,7 +32,7 @@ pub enum DataReason {
 
 /// What is found of data: why it is refused, if it is, each place at which it is wrong, up to 100, and what is only
 /// suspicious.
-#[derive(Debug, Drop)]
+#[derive(Drop)]
 pub struct DataReport {
     pub refused: Option<DataReason>,
     pub problems: Vec<DataProblem>,
@@ -88,7 +89,7 @@ fn report(
     let mut warnings = Vec::new(alloc);
     let mut place = Place::first();
     for wrong in reader.found.into_iter() {
-        place = place.at(bytes, wrong.start.min(bytes.len()));
+        place = place_in(place, bytes, wrong.start);
         let problem = DataProblem {
             start: wrong.start,
             line: place.line,
@@ -97,8 +98,8 @@ fn report(
         };
         match (wrong.flaw, refused) {
             (Flaw::SecondKey, _) => warnings.push(problem)?,
-            (Flaw::NotJson, Some(DataReason::NotJson)) => problems.push(problem)?,
-            (Flaw::NotWhole, Some(DataReason::NotWhole)) => problems.push(problem)?,
+            (Flaw::NotJson, Some(DataReason::NotJson))
+            | (Flaw::NotWhole, Some(DataReason::NotWhole)) => problems.push(problem)?,
             _ => {}
         }
     }

@@ -1,5 +1,5 @@
 //! What is found as lines, as compilers write them.
-ghost use Rattle.std.specs.Prelude.{◌≡◌, ◌++◌, ◌∷◌, ◌<◌, [], IfOk, None, OnOk, codes, false, string_bytes, true};
+ghost use Rattle.std.specs.Prelude.{◌≡◌, ◌++◌, ◌∷◌, ◌<◌, [], IfOk, None, OnOk, false, string_bytes, true};
 ghost use Rattle.std.specs.Fmt.{digit_glyph};
 ghost use Rattle.tmpl_values.specs.Quote.{letter_of, letters, spelling};
 ghost use Rattle.tmpl_values.specs.Rune.{char};
@@ -11,7 +11,7 @@ use std::alloc::{AllocError, Global};
 use tmpl_values::digit;
 
 /// What is wrong, and where, in a line.
-#[derive(Clone, Copy, Debug)]
+#[derive(Clone, Copy)]
 pub struct Finding<'a> {
     pub file: &'a str,
     /// Its line, from 1, and its column, from 1 by characters.
@@ -34,7 +34,7 @@ impl<'a> Finding<'a> {
         push_shown(out, self.file)?;
         push_place(out, self.place, self.level)?;
         push_shown(out, self.text)?;
-        push_end(out)
+        out.push_str("\n")
     }
 }
 
@@ -44,13 +44,6 @@ fn push_place(out: &mut String, place: (u64, u64), level: &str) -> Result<(), Al
 {
     let (line, column) = place;
     write!(out, ":{line}:{column}: {level}: ")
-}
-
-/// Ends a line.
-fn push_end(out: &mut String) -> Result<(), AllocError>
-    ensures { OnOk result (string_bytes out.new ≡ string_bytes out.old ++ codes "\n") }
-{
-    out.push_str("\n")
 }
 
 /// Adds a string, with what can't be seen or would look like another line by its code.

@@ -3,7 +3,7 @@
 use tmpl_syntax::Refused;
 
 /// A refusal, and what is wrong in words.
-#[derive(Debug, Drop)]
+#[derive(Drop)]
 pub struct Problem {
     pub refused: Refused,
     /// What is wrong, and what to write instead; it may be empty.
@@ -14,7 +14,7 @@ pub struct Problem {
 pub const MOST_PROBLEMS: usize = 1000;
 
 /// What is wrong in a file: the first problems of it.
-#[derive(Debug, Drop)]
+#[derive(Drop)]
 pub struct Problems {
     /// What is refused of it; nothing where it is accepted.
     pub refused: Vec<Problem>,

@@ -29,7 +29,7 @@ use tmpl_lex::{AfterText, Rest, Token, first_part};
 use tmpl_syntax::{NameHash, Place};
 
 /// What is suspicious at a place.
-#[derive(Debug, Drop)]
+#[derive(Drop)]
 pub struct Warning {
     /// How many bytes of the file stand before it.
     pub start: usize,
@@ -41,7 +41,7 @@ pub struct Warning {
 }
 
 /// A template that is named at a place: defined or called there.
-#[derive(Clone, Copy, Debug)]
+#[derive(Clone, Copy)]
 pub struct Named<'b> {
     pub name: &'b [u8],
     pub start: usize,
@@ -50,7 +50,7 @@ pub struct Named<'b> {
 }
 
 /// What is suspicious in a file, and the templates that it defines and calls; a `block` does both.
-#[derive(Debug, Drop)]
+#[derive(Drop)]
 pub struct Survey<'b> {
     pub warnings: Vec<Warning>,
     /// The actions with a command that fails at each run that gets to it.
@@ -73,10 +73,7 @@ type Variables<'b> = IndexMap<&'b [u8], Variable, NameHash>;
 #[derive(Drop)]
 struct Surveyor<'b> {
     alloc: Global,
-    warnings: Vec<Warning>,
-    failing: Vec<Warning>,
-    defined: Vec<Named<'b>>,
-    called: Vec<Named<'b>>,
+    survey: Survey<'b>,
     variables: Variables<'b>,
 }
 
@@ -99,7 +96,7 @@ pub fn survey_file<'b>(
         let part = first_part(file, rest, &mut tokens)?;
         place = pass_text(
             alloc,
-            &mut surveyor.warnings,
+            &mut surveyor.survey.warnings,
             file,
             place,
             part.start,
@@ -127,18 +124,21 @@ fn action_tokens<'t, 'b>(after: AfterText, tokens: &'t [Token<'b>]) -> &'t [Toke
 impl<'b> Surveyor<'b> {
     /// Nothing yet.
     fn new(alloc: Global, hash: NameHash) -> Surveyor<'b>
-        ensures warnings { result.warnings.items ≡ [] }
-        ensures failing { result.failing.items ≡ [] }
-        ensures defined { result.defined.items ≡ [] }
-        ensures called { result.called.items ≡ [] }
+        ensures warnings { result.survey.warnings.items ≡ [] }
+        ensures failing { result.survey.failing.items ≡ [] }
+        ensures defined { result.survey.defined.items ≡ [] }
+        ensures called { result.survey.called.items ≡ [] }
         ensures variables { result.variables.entries ≡ [] }
     {
-        Surveyor {
-            alloc,
+        let survey = Survey {
             warnings: Vec::new(alloc),
             failing: Vec::new(alloc),
             defined: Vec::new(alloc),
             called: Vec::new(alloc),
+        };
+        Surveyor {
+            alloc,
+            survey,
             variables: IndexMap::with_hasher(alloc, hash),
         }
     }
@@ -154,50 +154,48 @@ impl<'b> Surveyor<'b> {
         requires { IsPlace file.now place }
         ensures variables { OnOk result (Passes file.now opens (map token_of tokens.now)
             self.old.variables.entries self.new.variables.entries) }
-        ensures warnings { self.new.warnings ≡ self.old.warnings }
+        ensures warnings { self.new.survey.warnings ≡ self.old.survey.warnings }
         ensures defined { OnOk result (AddsName file.now opens (token.name_after definers (map token_of tokens.now))
-            self.old.defined.items self.new.defined.items) }
+            self.old.survey.defined.items self.new.survey.defined.items) }
         ensures called { OnOk result (AddsName file.now opens (token.name_after callers (map token_of tokens.now))
-            self.old.called.items self.new.called.items) }
+            self.old.survey.called.items self.new.survey.called.items) }
         ensures failing { OnOk result (AddsFailing file.now opens (has_failing (map token_of tokens.now))
-            self.old.failing.items self.new.failing.items) }
+            self.old.survey.failing.items self.new.survey.failing.items) }
         ensures place { IfOk result (λ p. IsPlace file.now p) }
     {
         let defined = name_after(tokens, &[b"define", b"block"]);
-        let place = pass_name(&mut self.defined, file, place, opens, defined)?;
+        let place = pass_name(&mut self.survey.defined, file, place, opens, defined)?;
         let called = name_after(tokens, &[b"template", b"block"]);
-        let place = pass_name(&mut self.called, file, place, opens, called)?;
+        let place = pass_name(&mut self.survey.called, file, place, opens, called)?;
         let place = declare(self.alloc, &mut self.variables, file, place, opens, tokens)?;
         use_variables(&mut self.variables, tokens);
-        pass_failing(self.alloc, &mut self.failing, file, place, opens, tokens)
+        pass_failing(
+            self.alloc,
+            &mut self.survey.failing,
+            file,
+            place,
+            opens,
+            tokens,
+        )
     }
 
     /// The survey, with the variables that nothing uses.
     fn finish(self) -> Result<Survey<'b>, AllocError>
-        ensures defined { IfOk result (λ s. s.defined ≡ self.entry.defined) }
-        ensures called { IfOk result (λ s. s.called ≡ self.entry.called) }
-        ensures failing { IfOk result (λ s. s.failing ≡ self.entry.failing) }
+        ensures same { IfOk result (λ s. (s.defined ≡ self.entry.survey.defined) × (s.called ≡ self.entry.survey.called)
+            × (s.failing ≡ self.entry.survey.failing)) }
         ensures placed { (file : List ℕ) → ArePlaced file self.entry.variables.entries → IfOk result (λ s.
-            AddsAll (λ w. IsPlace file (warned_place w)) self.entry.warnings.items s.warnings.items) }
+            AddsAll (λ w. IsPlace file (warned_place w)) self.entry.survey.warnings.items s.warnings.items) }
         ensures unused { (file : List ℕ) (uses : List (ℕ × List ℕ)) (ds : List Declared)
             → AllZip (IsNoted file uses) ds self.entry.variables.entries → IfOk result (λ s.
-            AddsZip (IsUnused file) (filter (λ d. not (is_used uses d)) ds) self.entry.warnings.items s.warnings.items) }
+            AddsZip (IsUnused file) (filter (λ d. not (is_used uses d)) ds) self.entry.survey.warnings.items s.warnings.items) }
     {
         let Surveyor {
             alloc,
-            mut warnings,
-            failing,
-            defined,
-            called,
+            mut survey,
             variables,
         } = self;
-        warn_of_unused(alloc, &mut warnings, &variables)?;
-        Ok(Survey {
-            warnings,
-            failing,
-            defined,
-            called,
-        })
+        warn_of_unused(alloc, &mut survey.warnings, &variables)?;
+        Ok(survey)
     }
 }
 

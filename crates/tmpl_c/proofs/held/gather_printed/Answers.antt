@@ -8,4 +8,4 @@ pub returns-clause-outcome : goal.returns-clause-outcome
 returns-clause-outcome c =
     let a = stop_answer (printed (templates_in c.args.set.now.held)) in
     without_line a _ _ _ refl (c.settle.ensures a
-    (from_nothing a _ _ _ _ _ c.requires.empty c.new-line.ensures c.print_kept-code.ensures.outcome))
+    (from_nothing a _ _ _ _ _ c.requires.empty c.new-line.ensures c.run_set_with-code.ensures.outcome))

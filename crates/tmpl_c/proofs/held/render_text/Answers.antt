@@ -1,6 +1,6 @@
 use Rattle.tmpl_c.specs.Filled.{limit_text}
 use Rattle.tmpl_c.specs.Held.{templates_run, value_in}
-use Rattle.tmpl_c.specs.computed.Extents.{run_by}
+use Rattle.tmpl_c.specs.computed.Outputs.{run_by}
 use Rattle.tmpl_c.proofs.GivenLemmas.{nothing_given}
 use Rattle.tmpl_c.proofs.held.render_text.Goals as goal
 

@@ -9,7 +9,7 @@ use Rattle.tmpl_engine.specs.declared.rendering.Renderer.{Renderer}
 use Rattle.tmpl_tool.specs.Outcome.{Outcome}
 use Rattle.tmpl_tool.specs.Tool.{answer_of, named_run}
 use Rattle.tmpl_c.specs.Passed.{rules_in}
-use Rattle.tmpl_c.specs.computed.Extents.{run_by, templates_borrowed}
+use Rattle.tmpl_c.specs.computed.Outputs.{run_by, templates_borrowed}
 use Rattle.tmpl_c.specs.computed.Gathering.{told_of}
 use Rattle.tmpl_c.proofs.held.run_with.Goals as goal
 

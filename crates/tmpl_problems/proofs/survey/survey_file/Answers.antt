@@ -4,6 +4,7 @@ use Rattle.tmpl_problems.specs.Survey.{Names, Warns, IsNamed, IsUnused, callers,
 use Rattle.tmpl_syntax.specs.Column.{IsPlace}
 use Rattle.tmpl_problems.specs.computed.Failing.{Fails, IsFailing, failing_from}
 use Rattle.tmpl_problems.specs.computed.Adds.{AddsAll, AddsZip}
+use Rattle.tmpl_problems.specs.declared.survey.Survey.{Survey}
 use Rattle.tmpl_problems.proofs.ProgressLemmas.{Done, found_in, ok-both, progress-begins, progress-more, tells, warns-all}
 use Rattle.tmpl_problems.proofs.survey.survey_file.Goals as goal
 
@@ -38,32 +39,36 @@ done c =
     e.cuts e.placed e.begins.0 e.begins.1 c.in-None.ensures.follows (found_in c.loop-tokens.surveyor) (found_in c.pass_action.new.self)
     (rw (← told.warnings) at c.in_ok-place.ensures.adds_warning) told.failing told.defined told.called told.variables c.loop-tokens.invariant.found
 
+-- what the survey has of the surveyor
+abbrev Same : goal.After-drop-tokens-in-None → Survey → Type 0
+Same c s = let last = c.pass_action.new.self.survey in (s.defined ≡ last.defined) × (s.called ≡ last.called) × (s.failing ≡ last.failing)
+
 pub returns-in-None-clause-defined : goal.returns-in-None-clause-defined
 returns-in-None-clause-defined c =
     let file = c.args.file.now in
     let d = done c in
-    IfOk-weaker c.finish.result (λ s. s.defined ≡ c.pass_action.new.self.defined) (λ s. Names definers file s.defined.items)
-    (λ s same. rw same (tells (names_from definers 0) (IsNamed file) named_place file d.pieces _ d.cut d.begun.defined (λ f. (d.exact f).defined))) c.finish.ensures.defined
+    IfOk-weaker c.finish.result (Same c) (λ s. Names definers file s.defined.items)
+    (λ s same. rw same.0 (tells (names_from definers 0) (IsNamed file) named_place file d.pieces _ d.cut d.begun.defined (λ f. (d.exact f).defined))) c.finish.ensures.same
 
 pub returns-in-None-clause-called : goal.returns-in-None-clause-called
 returns-in-None-clause-called c =
     let file = c.args.file.now in
     let d = done c in
-    IfOk-weaker c.finish.result (λ s. s.called ≡ c.pass_action.new.self.called) (λ s. Names callers file s.called.items)
-    (λ s same. rw same (tells (names_from callers 0) (IsNamed file) named_place file d.pieces _ d.cut d.begun.called (λ f. (d.exact f).called))) c.finish.ensures.called
+    IfOk-weaker c.finish.result (Same c) (λ s. Names callers file s.called.items)
+    (λ s same. rw same.1 (tells (names_from callers 0) (IsNamed file) named_place file d.pieces _ d.cut d.begun.called (λ f. (d.exact f).called))) c.finish.ensures.same
 
 pub returns-in-None-clause-failing : goal.returns-in-None-clause-failing
 returns-in-None-clause-failing c =
     let file = c.args.file.now in
     let d = done c in
-    IfOk-weaker c.finish.result (λ s. s.failing ≡ c.pass_action.new.self.failing) (λ s. Fails file s.failing.items)
-    (λ s same. rw same (tells (failing_from 0) (IsFailing file) warned_place file d.pieces _ d.cut d.begun.failing (λ f. (d.exact f).failing))) c.finish.ensures.failing
+    IfOk-weaker c.finish.result (Same c) (λ s. Fails file s.failing.items)
+    (λ s same. rw same.2 (tells (failing_from 0) (IsFailing file) warned_place file d.pieces _ d.cut d.begun.failing (λ f. (d.exact f).failing))) c.finish.ensures.same
 
 pub returns-in-None-clause-warnings : goal.returns-in-None-clause-warnings
 returns-in-None-clause-warnings c =
     let file = c.args.file.now in
     let d = done c in
-    let old = c.pass_action.new.self.warnings.items in
+    let old = c.pass_action.new.self.survey.warnings.items in
     ok-both (λ s. AddsAll (λ w. IsPlace file (warned_place w)) old s.warnings.items) (λ s. AddsZip (IsUnused file) (unused d.pieces) old s.warnings.items)
     (λ s. Warns file s.warnings.items) c.finish.result (c.finish.ensures.placed file d.begun.variables)
     (λ f. c.finish.ensures.unused file (used_from 0 d.pieces) (firsts [] (declared_from 0 d.pieces)) (d.exact f).variables)

@@ -3,4 +3,4 @@ use Rattle.tmpl_problems.proofs.line.Finding.push_to.Goals as goal
 
 pub returns : goal.returns
 returns c =
-    line_parts _ _ _ _ _ _ _ _ _ _ c.in_ok-push_shown.ensures c.in_ok-push_place.ensures c.in_ok-push_shown-2.ensures c.push_end.ensures
+    line_parts _ _ _ _ _ _ _ _ _ _ c.in_ok-push_shown.ensures c.in_ok-push_place.ensures c.in_ok-push_shown-2.ensures c.push_str.ensures.bytes
