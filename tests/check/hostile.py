@@ -23,7 +23,8 @@ STACK = 512 << 10  # bytes
 ALIKE = (20000, 40000, 80000)  # definitions
 TWICE = 2  # times as long as with other names they may take
 NOISE = 0.1  # seconds
-LEAST = 72  # cases
+LEAST = 78  # cases
+TEXT = {"type": "string"}
 COMPLEX = "error: may fail: it is too complex for this check"
 PARTS = (5000, 100000)
 CALLED = 11_000  # templates that call one another that a check follows; it has a limit of 12,000
@@ -262,6 +263,33 @@ def many(count):
         yield f"templates, {number}", called(number), "" if number <= CALLED else COMPLEX
 
 
+def nested(levels, inner):
+    """A schema of maps in maps, so deep."""
+    for _ in range(levels):
+        inner = {"type": "object", "required": ["a"], "properties": {"a": inner}}
+    return inner
+
+
+def levels(folder):
+    """A schema is read down a small stack as deep as CHECK says, with the definitions that `allOf` looks up, one in the other; deeper it is refused."""
+    def looked_up(depth):
+        more = {name: nested(depth, {"allOf": [{"$ref": f"#/$defs/{base}"}, {"required": ["x"]}]}) for name, base in ("bc", "cd", "de")}
+        return {**nested(depth, {"allOf": [{"$ref": "#/$defs/b"}, {"required": ["x"]}]}), "$defs": {**more, "e": TEXT}}
+    items = TEXT
+    for _ in range(88):
+        items = {"items": items}
+    for name, schema, is_read in (("items", items, True), ("items", {"items": {"items": items}}, False), ("maps", nested(60, TEXT), True),
+                                  ("maps that are looked up", looked_up(19), True), ("maps that are looked up", looked_up(22), False),
+                                  ("parts", {"allOf": [nested(60, TEXT), nested(60, TEXT)]}, True)):
+        for file, text in (("s", json.dumps(schema)), ("m", "x")):
+            with open(f"{folder}/{file}", "w", encoding="ascii") as out:
+                out.write(text)
+        done = subprocess.run([harness.CHECKER, "--schema", "s", "m"], cwd=folder, stdin=subprocess.DEVNULL, capture_output=True, preexec_fn=limited(STACK=STACK), timeout=harness.SECONDS)
+        said = done.stdout.decode()
+        wanted = (0, "") if is_read else (1, "too many levels")
+        yield f"levels of {name}, {'read' if is_read else 'refused'}", wanted, (done.returncode, "too many levels" if said.endswith(": too many levels\n") else said)
+
+
 def parts(folder):
     """A check against a schema goes down a small stack no further than it has room: the rest is refused as too complex."""
     with open(f"{folder}/s", "w", encoding="ascii") as file:
@@ -281,7 +309,7 @@ def main():
         return 1
     passed, failed = 0, []
     with tempfile.TemporaryDirectory(dir=harness.MEMORY) as folder:
-        for test in (endless, shared, stacked, deep, colliding, drawn, inputs, parts):
+        for test in (endless, shared, stacked, deep, colliding, drawn, inputs, levels, parts):
             for name, wanted, got in test(folder):
                 if wanted == got:
                     passed += 1
