@@ -271,15 +271,14 @@ def nested(levels, inner):
 
 
 def levels(folder):
-    """A schema is read down a small stack as deep as CHECK says, with the definitions that `allOf` looks up, one in the other; deeper it is refused."""
+    """A schema is read down a small stack as deep as CHECK says, with a definition that `allOf` looks up; deeper it is refused."""
     def looked_up(depth):
-        more = {name: nested(depth, {"allOf": [{"$ref": f"#/$defs/{base}"}, {"required": ["x"]}]}) for name, base in ("bc", "cd", "de")}
-        return {**nested(depth, {"allOf": [{"$ref": "#/$defs/b"}, {"required": ["x"]}]}), "$defs": {**more, "e": TEXT}}
+        return {**nested(depth, {"allOf": [{"$ref": "#/$defs/b"}, {"required": ["x"]}]}), "$defs": {"b": nested(depth, TEXT)}}
     items = TEXT
     for _ in range(88):
         items = {"items": items}
     for name, schema, is_read in (("items", items, True), ("items", {"items": {"items": items}}, False), ("maps", nested(60, TEXT), True),
-                                  ("maps that are looked up", looked_up(19), True), ("maps that are looked up", looked_up(22), False),
+                                  ("maps that are looked up", looked_up(40), True), ("maps that are looked up", looked_up(60), False),
                                   ("parts", {"allOf": [nested(60, TEXT), nested(60, TEXT)]}, True)):
         for file, text in (("s", json.dumps(schema)), ("m", "x")):
             with open(f"{folder}/{file}", "w", encoding="ascii") as out:

@@ -218,6 +218,11 @@ ACCEPTED = [
     ("other properties of parts", {"allOf": [{"type": "object", "additionalProperties": TEXT}, {"additionalProperties": {"minLength": 1}}]}, "{{range .}}{{len .}}{{end}}", []),
     ("a definition that has itself as a part", {"$ref": "#/$defs/x", "$defs": {"x": {"allOf": [of({"a": TEXT, "x": {"type": ["object", "null"], "allOf": [{"$ref": "#/$defs/x"}]}}), {}]}}},
      "{{len .a}}{{with .x}}{{len .a}}{{with .x}}{{len .a}}{{end}}{{end}}", []),
+    ("parts of allOf three references deep", {"allOf": [{"$ref": "#/$defs/a"}, {}], "$defs": {
+        "a": {"allOf": [{"$ref": "#/$defs/b"}, {}]}, "b": {"allOf": [{"$ref": "#/$defs/c"}, {}]}, "c": of({"x": TEXT})}},
+     "{{len .x}}", []),
+    ("a part of allOf inside what is looked up", {"allOf": [{"$ref": "#/$defs/a"}, {}], "$defs": {
+        "a": of({"y": {"allOf": [{"$ref": "#/$defs/b"}, {"minLength": 1}]}}), "b": TEXT}}, "{{len .y}}", []),
     ("properties beside a reference", {"$ref": "#/$defs/x", **MORE, "$defs": {"x": {"type": "object", "required": ["a"], "properties": {"a": TEXT}}}}, "{{len .a}}{{len .b}}", []),
     ("required beside a reference", {"$ref": "#/$defs/x", "required": ["a"], "$defs": {"x": {"type": "object", "properties": {"a": TEXT}}}}, "{{len .a}}", []),
     ("type beside allOf", of({"a": {"type": "object", "allOf": [{"anyOf": [of({"b": TEXT}), TEXT]}]}}), "{{len .a.b}}", []),
@@ -442,8 +447,8 @@ REFUSED = [
     ("required in an alternative of a part", {**of({"a": TEXT}, []), "allOf": [{"anyOf": [{"required": ["a"]}, {"required": ["b"]}]}, {}]}, "{{.a}}", [],
      '1:1: error: may fail: .a may be absent: not in "required" of s:1'),
     ("parts of allOf four references deep", {"allOf": [{"$ref": "#/$defs/a"}, {}], "$defs": {
-        "a": {"allOf": [{"$ref": "#/$defs/b"}, {}]}, "b": {"allOf": [{"$ref": "#/$defs/c"}, {}]}, "c": {"allOf": [{"$ref": "#/$defs/d"}, {"type": "object"}]},
-        "d": of({"x": TEXT})}}, "{{.x}}", [], '1:1: error: may fail: .x may be absent: the schema does not require it'),
+        "a": {"allOf": [{"$ref": "#/$defs/b"}, {}]}, "b": {"allOf": [{"$ref": "#/$defs/c"}, {}]}, "c": {"allOf": [{"$ref": "#/$defs/d"}, {"required": ["x"]}]},
+        "d": {"type": "object", "properties": {"x": TEXT}}}}, "{{.x}}", [], '1:1: error: may fail: .x may be absent: no "required" at s:1'),
     ("properties beside a reference of draft-07", {"$ref": "#/definitions/x", "required": ["a"], "definitions": {"x": {"type": "object", "properties": {"a": TEXT}}}, **DRAFT_07},
      "{{.a}}", [], '1:1: error: may fail: .a may be absent: no "required" at s:1'),
     ("items after a prefix", of({"a": {"type": "array", "prefixItems": [WHOLE], "items": TEXT}}), "{{range .a}}{{len .}}{{end}}", [], LENGTH % 13),

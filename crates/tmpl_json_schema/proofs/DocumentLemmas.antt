@@ -1,5 +1,5 @@
 -- For the call `read_schema`: a value that conforms to a document fits the shape that is read of it.
-use Rattle.std.proofs.Common.{arith, IsUtf8, ◌≡◌, ◌∙◌, ap, ◌⊎◌, ◌≤◌, ◌&&◌, length, Bool, true, false, not, List, [], ◌∷◌, ℕ, zero, suc, Option, Some, None, All, IfSome, IsSome, is_some, inl, inr, refl, sym, subst, if◌then◌else◌, codes}
+use Rattle.std.proofs.Common.{arith, IsUtf8, ◌≡◌, ◌∙◌, ◌==◌, ◌||◌, ap, ◌⊎◌, ◌≤◌, ◌&&◌, length, Bool, true, false, not, List, [], ◌∷◌, ℕ, zero, suc, Option, Some, None, All, IfSome, IsSome, is_some, inl, inr, refl, sym, subst, if◌then◌else◌, codes}
 use Rattle.std.specs.Option.{option_map, option_map_or, option_and_then}
 use Rattle.std.specs.Str.{bytes_eq, is_utf8}
 use Rattle.std.proofs.lemmas.Bool.{false≢true, and_parts}
@@ -30,7 +30,7 @@ use Rattle.tmpl_json_schema.specs.computed.Reading.{fold, fold_members, every_ki
 use Rattle.tmpl_json_schema.specs.computed.Reading.{count_of, least_in, texts_in, is_every_kind, by_kinds, keep_kinds, rest_of, shape_of_rest, has_content, choices_in, or_else, is_listed}
 use Rattle.tmpl_json_schema.specs.computed.Reading.{choice_with, choice_shape, required_in, required_fields, properties_in, property_fields, with_property}
 use Rattle.tmpl_json_schema.specs.computed.Reading.{additional_in, beside_shape, if_listed, is_anything, items_shape, joint_shape, kinds_shape, listed_in, with_pattern, with_patterns}
-use Rattle.tmpl_json_schema.specs.computed.Reading.{fields_in, content_shape, has_start, part_with, parts_shape, plain_shape, object_shape, is_unread, referred, shape_by, start_shape, tells_more}
+use Rattle.tmpl_json_schema.specs.computed.Reading.{fields_in, content_shape, has_start, part_with, parts_shape, plain_shape, object_shape, is_unread, first_of, has_one, referred, shape_by, start_shape, tells_more}
 use Rattle.tmpl_json_schema.specs.computed.Reading.{Context, looked_up, with_parts}
 use Rattle.tmpl_json_schema.specs.computed.Defined.{AreLookedUp, IsDefinition, are_defined}
 use Rattle.tmpl_json_schema.proofs.KindLemmas.{HasKind, HasParts, is-some, not-some, both-kinds, type_kinds-has, constant_kind-has, enum_kinds-has, texts-has, by_kinds-has, kept-has}
@@ -332,51 +332,59 @@ module _ (N : Names) (read : Data → Option Shape) (C : Data → Value → Type
 
   -- ---- parts
 
-  module _ (c : Context) (part : Data → Option Shape) (look : List ℕ → Option Shape)
+  module _ (c : Context) (lookups : ℕ) (part : Data → Option Shape) (look : List ℕ → Option Shape)
       (part-ok : (d : Data) (s : Shape) (v : Value) → part d ≡ Some s → C d v → HasShape N s v) where
-    each-part-has : (ds : Items) (a s : Shape) (v : Value) → fold (part_with c read part look) a ds ≡ Some s → HasShape N a v → EachItemOf (λ d. C d v) ds
+    each-part-has : (ds : Items) (a s : Shape) (v : Value) → fold (part_with c lookups read part look) a ds ≡ Some s → HasShape N a v → EachItemOf (λ d. C d v) ds
         → HasShape N s v
     each-part-has no_items a s v e h k = is-some (λ t. HasShape N t v) a s e h
     each-part-has (json.item d ds) a s v e h k = by (part d) refl e (λ b f x. each-part-has ds b s v f x k.1)
       where
-        by : (o : Option Shape) → part d ≡ o → option_and_then (λ b. fold (part_with c read part look) b ds) (option_map (meet c.levels a) o) ≡ Some s
-            → ((b : Shape) → fold (part_with c read part look) b ds ≡ Some s → HasShape N b v → HasShape N s v) → HasShape N s v
+        by : (o : Option Shape) → part d ≡ o → option_and_then (λ b. fold (part_with c lookups read part look) b ds) (option_map (meet c.levels a) o) ≡ Some s
+            → ((b : Shape) → fold (part_with c lookups read part look) b ds ≡ Some s → HasShape N b v → HasShape N s v) → HasShape N s v
         by None is f more = absurd (not-some s f)
         by (Some t) is f more = more (meet c.levels a t) f (meet-has N c.levels a t v h (part-ok d t v is k.0))
 
-    parts-has : (l : Data) (a s : Shape) (v : Value) → parts_shape c read part look a l ≡ Some s → HasShape N a v → FitsEach C v l → HasShape N s v
+    parts-has : (l : Data) (a s : Shape) (v : Value) → parts_shape c lookups read part look a l ≡ Some s → HasShape N a v → FitsEach C v l → HasShape N s v
     parts-has (json.array ds) a s v e h k = each-part-has ds a s v e h k
     parts-has l a s v e h k = is-some (λ t. HasShape N t v) a s e h
 
-    joint-has : (l : Data) (s : Shape) (v : Value) → joint_shape c read part look l ≡ Some s → FitsEach C v l → HasShape N s v
-    joint-has (json.array (json.item d no_items)) s v e k = ok d s v e k.0
-    joint-has l s v e k = parts-has l anything s v e tt k
+    first-has : (l : Data) (s : Shape) (v : Value) → option_map_or read (first_of l) (Some anything) ≡ Some s → FitsEach C v l → HasShape N s v
+    first-has (json.array (json.item d ds)) s v e h = ok d s v e h.0
+    first-has (json.array no_items) s v e h = is-some (λ t. HasShape N t v) anything s e tt
+    first-has l s v e h = is-some (λ t. HasShape N t v) anything s e tt
+
+    joint-has : (l : Data) (s : Shape) (v : Value) → joint_shape c lookups read part look l ≡ Some s → FitsEach C v l → HasShape N s v
+    joint-has l s v e h = by (lookups == 0 || has_one l) e
+      where
+        by : (b : Bool) → (if b then option_map_or read (first_of l) (Some anything) else parts_shape c lookups read part look anything l) ≡ Some s → HasShape N s v
+        by true f = first-has l s v f h
+        by false f = parts-has l anything s v f tt h
 
     module _ (ms : Members) (v : Value) (h : ConformsPlainly ms v) where
       abbrev entire : Data
       entire = json.object ms
 
-      with-parts-has : (ks : Kinds) (l : Data) (s : Shape) → FitsEach C v l → with_parts c read part look entire ks l ≡ Some s → HasKind ks v → HasShape N s v
-      with-parts-has ks l s each e k = by (has_start entire) (start_shape read entire ks) refl (joint_shape c read part look l) refl e
+      with-parts-has : (ks : Kinds) (l : Data) (s : Shape) → FitsEach C v l → with_parts c lookups read part look entire ks l ≡ Some s → HasKind ks v → HasShape N s v
+      with-parts-has ks l s each e k = by (has_start entire) (start_shape read entire ks) refl (joint_shape c lookups read part look l) refl e
         where
-          by : (b : Bool) (o : Option Shape) → start_shape read entire ks ≡ o → (p : Option Shape) → joint_shape c read part look l ≡ p
-              → (if b then option_and_then (λ a. parts_shape c read part look a l) o else option_map (keep_kinds ks) p) ≡ Some s → HasShape N s v
+          by : (b : Bool) (o : Option Shape) → start_shape read entire ks ≡ o → (p : Option Shape) → joint_shape c lookups read part look l ≡ p
+              → (if b then option_and_then (λ a. parts_shape c lookups read part look a l) o else option_map (keep_kinds ks) p) ≡ Some s → HasShape N s v
           by true None x p y f = absurd (not-some s f)
           by true (Some a) x p y f = parts-has l a s v f (start-has ms v h ks a x k) each
           by false o x None y f = absurd (not-some s f)
           by false o x (Some t) y f = is-some (λ u. HasShape N u v) (keep_kinds ks t) s f (kept-has N ks t v k (joint-has l t v y each))
 
-      plain-has : (ks : Kinds) (s : Shape) → plain_shape c read part look entire ks ≡ Some s → HasKind ks v → HasShape N s v
+      plain-has : (ks : Kinds) (s : Shape) → plain_shape c lookups read part look entire ks ≡ Some s → HasKind ks v → HasShape N s v
       plain-has ks s e k = by (get (codes "allOf") entire) h.11 e
         where
-          by : (o : Option Data) → IfSome o (FitsEach C v) → option_map_or (with_parts c read part look entire ks) o (start_shape read entire ks) ≡ Some s → HasShape N s v
+          by : (o : Option Data) → IfSome o (FitsEach C v) → option_map_or (with_parts c lookups read part look entire ks) o (start_shape read entire ks) ≡ Some s → HasShape N s v
           by None each f = start-has ms v h ks s f k
           by (Some l) each f = with-parts-has ks l s each f k
 
-      kinds-shape-has : (s : Shape) → kinds_shape c read part look entire ≡ Some s → HasShape N s v
+      kinds-shape-has : (s : Shape) → kinds_shape c lookups read part look entire ≡ Some s → HasShape N s v
       kinds-shape-has s e = by (kinds_in entire) refl e
         where
-          by : (o : Option Kinds) → kinds_in entire ≡ o → option_and_then (plain_shape c read part look entire) o ≡ Some s → HasShape N s v
+          by : (o : Option Kinds) → kinds_in entire ≡ o → option_and_then (plain_shape c lookups read part look entire) o ≡ Some s → HasShape N s v
           by None is f = absurd (not-some s f)
           by (Some ks) is f = plain-has ks s f (all-kinds ms v h ks is)
 
@@ -391,22 +399,22 @@ module _ (N : Names) (read : Data → Option Shape) (C : Data → Value → Type
       reference = get (codes "$ref") entirety
 
       -- .. where what stands beside a `$ref` counts
-      beside-kinds : (is_some reference && not (is_since_2019 c.draft)) ≡ false → (s : Shape) → kinds_shape c read part look entirety ≡ Some s → HasShape N s v
+      beside-kinds : (is_some reference && not (is_since_2019 c.draft)) ≡ false → (s : Shape) → kinds_shape c lookups read part look entirety ≡ Some s → HasShape N s v
       beside-kinds x s e =
           let alone : is_alone root reference ≡ false = ap (λ o. is_some reference && not (option_map_or is_since_2019 o true)) is ∙ x in
           kinds-shape-has ms v (plainly root c.draft ms v is alone unread h) s e
 
-      beside-has : (s : Shape) → beside_shape c read part look entirety reference ≡ Some s → HasShape N s v
+      beside-has : (s : Shape) → beside_shape c lookups read part look entirety reference ≡ Some s → HasShape N s v
       beside-has s e = by (is_some reference && not (is_since_2019 c.draft)) refl e
         where
-          by : (b : Bool) → (is_some reference && not (is_since_2019 c.draft)) ≡ b → (if b then Some anything else kinds_shape c read part look entirety) ≡ Some s → HasShape N s v
+          by : (b : Bool) → (is_some reference && not (is_since_2019 c.draft)) ≡ b → (if b then Some anything else kinds_shape c lookups read part look entirety) ≡ Some s → HasShape N s v
           by true x f = is-some (λ t. HasShape N t v) anything s f tt
           by false x f = beside-kinds x s f
 
-      referred-has : (b : Bool) (p : List ℕ) (s : Shape) → N p v → ((t : Shape) → look p ≡ Some t → HasShape N t v) → referred c read part look b entirety p ≡ Some s → HasShape N s v
+      referred-has : (b : Bool) (p : List ℕ) (s : Shape) → N p v → ((t : Shape) → look p ≡ Some t → HasShape N t v) → referred c lookups read part look b entirety p ≡ Some s → HasShape N s v
       referred-has b p s named-has look-has e = by (is_since_2019 c.draft) refl (tells_more entirety) b e
         where
-          both : is_since_2019 c.draft ≡ true → (o : Option Shape) → look p ≡ o → (q : Option Shape) → kinds_shape c read part look entirety ≡ q
+          both : is_since_2019 c.draft ≡ true → (o : Option Shape) → look p ≡ o → (q : Option Shape) → kinds_shape c lookups read part look entirety ≡ q
               → option_and_then (λ a. option_map (meet c.levels a) q) o ≡ Some s → HasShape N s v
           both x None y q z f = absurd (not-some s f)
           both x (Some a) y None z f = absurd (not-some s f)
@@ -419,8 +427,8 @@ module _ (N : Names) (read : Data → Option Shape) (C : Data → Value → Type
               since-counts true false e = absurd (false≢true e)
 
           by : (w : Bool) → is_since_2019 c.draft ≡ w → (m : Bool) (b : Bool)
-              → (if w && m then option_and_then (λ a. option_map (meet c.levels a) (kinds_shape c read part look entirety)) (look p) else if b then look p else Some (named p)) ≡ Some s → HasShape N s v
-          by true x true b f = both x (look p) refl (kinds_shape c read part look entirety) refl f
+              → (if w && m then option_and_then (λ a. option_map (meet c.levels a) (kinds_shape c lookups read part look entirety)) (look p) else if b then look p else Some (named p)) ≡ Some s → HasShape N s v
+          by true x true b f = both x (look p) refl (kinds_shape c lookups read part look entirety) refl f
           by true x false true f = look-has s f
           by true x false false f = is-some (λ t. HasShape N t v) (named p) s f named-has
           by false x m true f = look-has s f
@@ -428,7 +436,7 @@ module _ (N : Names) (read : Data → Option Shape) (C : Data → Value → Type
 
     object-has : (root : Data) (ms : Members) (v : Value) (b : Bool) → draft_of root ≡ Some c.draft
         → ((r : Data) (p : List ℕ) → listed_in c.names r ≡ Some p → IfSome (refer root r) (λ d. C d v) → N p v × ((t : Shape) → look p ≡ Some t → HasShape N t v))
-        → (s : Shape) → object_shape c read part look b (json.object ms) ≡ Some s → ConformsBy root C (json.object ms) v → HasShape N s v
+        → (s : Shape) → object_shape c lookups read part look b (json.object ms) ≡ Some s → ConformsBy root C (json.object ms) v → HasShape N s v
     object-has root ms v b is refers s e h = by (is_unread c.draft (json.object ms)) refl e
       where
         named-has : (o : Option Data) → IfSome o (λ r. IfSome (refer root r) (λ d. C d v)) → (p : List ℕ) → option_and_then (listed_in c.names) o ≡ Some p
@@ -437,13 +445,13 @@ module _ (N : Names) (read : Data → Option Shape) (C : Data → Value → Type
         named-has (Some d) r p f = refers d p f r
 
         pick : is_unread c.draft (json.object ms) ≡ false → (o : Option (List ℕ)) → option_and_then (listed_in c.names) (get (codes "$ref") (json.object ms)) ≡ o
-            → option_map_or (referred c read part look b (json.object ms)) o (beside_shape c read part look (json.object ms) (get (codes "$ref") (json.object ms))) ≡ Some s → HasShape N s v
+            → option_map_or (referred c lookups read part look b (json.object ms)) o (beside_shape c lookups read part look (json.object ms) (get (codes "$ref") (json.object ms))) ≡ Some s → HasShape N s v
         pick u None x f = beside-has root ms v is u h s f
         pick u (Some p) x f = let k = named-has (get (codes "$ref") (json.object ms)) h.1 p x in referred-has root ms v is u h b p s k.0 k.1 f
 
         by : (d : Bool) → is_unread c.draft (json.object ms) ≡ d
-            → (if d then None else option_map_or (referred c read part look b (json.object ms)) (option_and_then (listed_in c.names) (get (codes "$ref") (json.object ms)))
-            (beside_shape c read part look (json.object ms) (get (codes "$ref") (json.object ms)))) ≡ Some s → HasShape N s v
+            → (if d then None else option_map_or (referred c lookups read part look b (json.object ms)) (option_and_then (listed_in c.names) (get (codes "$ref") (json.object ms)))
+            (beside_shape c lookups read part look (json.object ms) (get (codes "$ref") (json.object ms)))) ≡ Some s → HasShape N s v
         by true u f = absurd (not-some s f)
         by false u f = pick u (option_and_then (listed_in c.names) (get (codes "$ref") (json.object ms))) refl f
 
@@ -452,7 +460,7 @@ module _ (N : Names) (read : Data → Option Shape) (C : Data → Value → Type
 -- each of the names stands for what is read at its pointer
 abbrev pub EachDefined : Context → Data → ℕ → Defs → Type 0
 EachDefined c root k defs = (p : List ℕ) → is_listed c.names p ≡ true
-    → (d : Data) × (s : Shape) × (pointer p root ≡ Some d) × (pointer p c.root ≡ Some d) × (defs p ≡ Some s) × (shape_by c c.levels k false d ≡ Some s)
+    → (d : Data) × (s : Shape) × (pointer p root ≡ Some d) × (pointer p c.root ≡ Some d) × (defs p ≡ Some s) × (shape_by c c.levels k k false d ≡ Some s)
 
 -- a value of which there is a `$ref` is one of what that points to
 refers-to : (names : List (List ℕ)) (root : Data) (P : Data → Type 0) (r : Data) (q : List ℕ) → listed_in names r ≡ Some q → IfSome (refer root r) P
@@ -470,12 +478,12 @@ refers-to names root P r q e h = absurd (not-some q e)
 
 module _ (c : Context) (root : Data) (is-of : draft_of root ≡ Some c.draft) (l : ℕ) (defs : Defs) (defined : EachDefined c root l defs) (N : Names) (means : Means defs N) where
   -- what a `$ref` stands for, by its definition and where it is looked up
-  refers-has : (C : Data → Value → Type 0) → ((d : Data) (s : Shape) (v : Value) → shape_by c c.levels l false d ≡ Some s → C d v → HasShape N s v)
+  refers-has : (C : Data → Value → Type 0) → ((d : Data) (s : Shape) (v : Value) → shape_by c c.levels l l false d ≡ Some s → C d v → HasShape N s v)
       → (read : ℕ → Data → Option Shape) → ((j : ℕ) (d : Data) (s : Shape) (v : Value) → read j d ≡ Some s → C d v → HasShape N s v) → (k : ℕ) (v : Value) (r : Data) (p : List ℕ)
       → listed_in c.names r ≡ Some p → IfSome (refer root r) (λ d. C d v) → N p v × ((t : Shape) → looked_up c read k p ≡ Some t → HasShape N t v)
   refers-has C ok read read-ok k v r p e h = (stands, by k)
     where
-      at : (d : Data) × (s : Shape) × (pointer p root ≡ Some d) × (pointer p c.root ≡ Some d) × (defs p ≡ Some s) × (shape_by c c.levels l false d ≡ Some s)
+      at : (d : Data) × (s : Shape) × (pointer p root ≡ Some d) × (pointer p c.root ≡ Some d) × (defs p ≡ Some s) × (shape_by c c.levels l l false d ≡ Some s)
       at = defined p (refers-to c.names root (λ d. C d v) r p e h).0
 
       conforms : C at.0 v
@@ -488,29 +496,29 @@ module _ (c : Context) (root : Data) (is-of : draft_of root ≡ Some c.draft) (l
       by zero t f = is-some (λ s. HasShape N s v) (named p) t f stands
       by (suc j) t f = read-ok j at.0 t v (sym (ap (option_and_then (read j)) at.3) ∙ f) conforms
 
-  sound : (n m k : ℕ) (b : Bool) (d : Data) (s : Shape) (v : Value) → shape_by c m k b d ≡ Some s → conforms_in root n d v → HasShape N s v
-  sound zero m k b d s v e h = absurd h
-  sound (suc n) zero k b d s v e h = absurd (not-some s e)
-  sound (suc n) (suc m) k b (json.boolean a) s v e h = by a h e
+  sound : (n m k i : ℕ) (b : Bool) (d : Data) (s : Shape) (v : Value) → shape_by c m k i b d ≡ Some s → conforms_in root n d v → HasShape N s v
+  sound zero m k i b d s v e h = absurd h
+  sound (suc n) zero k i b d s v e h = absurd (not-some s e)
+  sound (suc n) (suc m) k i b (json.boolean a) s v e h = by a h e
     where
-      by : (i : Bool) → i ≡ true → Some (if i then anything else never) ≡ Some s → HasShape N s v
+      by : (o : Bool) → o ≡ true → Some (if o then anything else never) ≡ Some s → HasShape N s v
       by true x f = is-some (λ t. HasShape N t v) anything s f tt
       by false x f = absurd (false≢true x)
-  sound (suc n) (suc m) k b (json.object ms) s v e h =
-      object-has N (shape_by c m k false) (conforms_in root n) (sound n m k false) c (shape_by c m k true) (looked_up c (λ j. shape_by c m j true) k) (sound n m k true) root ms v b is-of
-      (refers-has (conforms_in root n) (sound n c.levels l false) (λ j. shape_by c m j true) (λ j. sound n m j true) k v) s e h
-  sound (suc n) (suc m) k b d s v e h = absurd (not-some s e)
+  sound (suc n) (suc m) k i b (json.object ms) s v e h =
+      object-has N (shape_by c m i i false) (conforms_in root n) (sound n m i i false) c k (shape_by c m k i true) (looked_up c (λ j. shape_by c m j 0 true) k) (sound n m k i true) root ms v b is-of
+      (refers-has (conforms_in root n) (sound n c.levels l l false) (λ j. shape_by c m j 0 true) (λ j. sound n m j 0 true) k v) s e h
+  sound (suc n) (suc m) k i b d s v e h = absurd (not-some s e)
 
 -- ---- the definitions
 
 find-definition : (c : Context) (k : ℕ) (ds : List Definition) → All (IsDefinition c k) ds → (p : List ℕ) → IsSome (defs_in ds p)
-    → (d : Data) × (s : Shape) × (pointer p c.root ≡ Some d) × (defs_in ds p ≡ Some s) × (shape_by c c.levels k false d ≡ Some s)
+    → (d : Data) × (s : Shape) × (pointer p c.root ≡ Some d) × (defs_in ds p ≡ Some s) × (shape_by c c.levels k k false d ≡ Some s)
 find-definition c k [] all p is = absurd (false≢true is)
 find-definition c k (x ∷ ds) all p is = by (bytes_eq p x.name) refl is (find-definition c k ds (All-tail (IsDefinition c k) x ds all) p)
   where
     by : (b : Bool) → bytes_eq p x.name ≡ b → IsSome (if b then Some (shape_of x.shape) else defs_in ds p)
-        → (IsSome (defs_in ds p) → (d : Data) × (s : Shape) × (pointer p c.root ≡ Some d) × (defs_in ds p ≡ Some s) × (shape_by c c.levels k false d ≡ Some s))
-        → (d : Data) × (s : Shape) × (pointer p c.root ≡ Some d) × ((if b then Some (shape_of x.shape) else defs_in ds p) ≡ Some s) × (shape_by c c.levels k false d ≡ Some s)
+        → (IsSome (defs_in ds p) → (d : Data) × (s : Shape) × (pointer p c.root ≡ Some d) × (defs_in ds p ≡ Some s) × (shape_by c c.levels k k false d ≡ Some s))
+        → (d : Data) × (s : Shape) × (pointer p c.root ≡ Some d) × ((if b then Some (shape_of x.shape) else defs_in ds p) ≡ Some s) × (shape_by c c.levels k k false d ≡ Some s)
     by true e i more =
         let at = All-head (IsDefinition c k) x ds all in
         (at.0, shape_of x.shape, subst (λ (q : List ℕ). pointer q c.root ≡ Some at.0) (sym (same_name p x.name e)) at.1, refl, at.2)
@@ -542,18 +550,18 @@ base-draft root = by (has_inner_base root)
 
 -- what is looked up is
 base-defined : (c : Context) (k : ℕ) (defs : Defs) → AreLookedUp c.root c.names
-    → ((p : List ℕ) → is_listed c.names p ≡ true → (d : Data) × (s : Shape) × (pointer p c.root ≡ Some d) × (defs p ≡ Some s) × (shape_by c c.levels k false d ≡ Some s))
+    → ((p : List ℕ) → is_listed c.names p ≡ true → (d : Data) × (s : Shape) × (pointer p c.root ≡ Some d) × (defs p ≡ Some s) × (shape_by c c.levels k k false d ≡ Some s))
     → EachDefined c (base_of c.root) k defs
 base-defined c k defs (inl same) each = λ p i. let at = each p i in (at.0, at.1, subst (λ r. pointer p r ≡ Some at.0) (sym same) at.2, at.2, at.3, at.4)
 base-defined c k defs (inr none) each = λ p i. absurd (false≢true (ap (λ ns. is_listed ns p) (sym none) ∙ i))
 
 pub document-fits : (c : Context) → draft_of c.root ≡ Some c.draft → (k : ℕ) (ds : List Definition) (s : Shape) → AreLookedUp c.root c.names
-    → All (IsDefinition c k) ds → are_defined (defs_in ds) c.names ≡ true → shape_by c c.levels k false c.root ≡ Some s → (n : ℕ) (v : Value)
+    → All (IsDefinition c k) ds → are_defined (defs_in ds) c.names ≡ true → shape_by c c.levels k k false c.root ≡ Some s → (n : ℕ) (v : Value)
     → conforms_in (base_of c.root) n c.root v → HasShape (stands_for (defs_in ds)) s v
 document-fits c is-of k ds s looked all e is n v h =
     sound c (base_of c.root) (base-draft c.root ∙ is-of) k (defs_in ds)
     (base-defined c k (defs_in ds) looked (λ p i. find-definition c k ds all p (listed-defined (defs_in ds) c.names p e i)))
-    (stands_for (defs_in ds)) (meant (defs_in ds)) n c.levels k false c.root s v is h
+    (stands_for (defs_in ds)) (meant (defs_in ds)) n c.levels k k false c.root s v is h
 
 -- ---- the document that bytes are
 

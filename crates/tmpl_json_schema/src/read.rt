@@ -10,7 +10,7 @@ ghost use Rattle.tmpl_shape.specs.View.{fields_of, shape_of};
 ghost use Rattle.tmpl_shape.specs.computed.Meet.{meet};
 ghost use Rattle.tmpl_json_schema.specs.Document.{items_in};
 ghost use Rattle.tmpl_json_schema.specs.computed.Reading.{additional_in, beside_shape, choice_shape, choice_with, choices_in, content_shape, context_of, fields_in, fold};
-ghost use Rattle.tmpl_json_schema.specs.computed.Reading.{fold_members, has_start, is_unread, items_shape, joint_shape, kinds_shape, listed_in, look_by, object_shape, part_by, part_with};
+ghost use Rattle.tmpl_json_schema.specs.computed.Reading.{first_of, fold_members, has_one, has_start, is_single, is_unread, items_shape, joint_shape, kinds_shape, listed_in, look_by, object_shape, part_by, part_with};
 ghost use Rattle.tmpl_json_schema.specs.computed.Reading.{parts_shape, plain_shape, properties_in, read_by, referred, shape_by, start_shape, tells_more, with_parts, with_pattern, with_patterns, with_property};
 
 use crate::draft::Draft;
@@ -22,7 +22,7 @@ use crate::shapes::{by_kinds, is_anything, kept, rest_of};
 use crate::texts::texts_in;
 use serde_json::{Map, Value};
 use std::alloc::Global;
-use tmpl_shape::{Base, Fields, Shape, copy_name, meet, or_shape, put_field};
+use tmpl_shape::{Base, Effort, Fields, Shape, Unmet, copy_name, meet, or_shape, put_field};
 use tmpl_values::Bytes;
 
 /// The most alternatives that a shape may have: they are dropped one inside the other.
@@ -39,7 +39,9 @@ pub(crate) struct Reader<'s> {
     pub(crate) levels: usize,
     /// How many parts of `allOf` that are references are looked up, one in the other.
     pub(crate) lookups: usize,
-    pub(crate) base: Base<'s>,
+    /// How many inside what stands there: none inside what is looked up, since that multiplies.
+    pub(crate) inner_lookups: usize,
+    pub(crate) effort: &'s Effort,
     pub(crate) alloc: Global,
 }
 
@@ -111,13 +113,17 @@ fn tells_more(schema: &Value) -> bool
 pub(crate) fn shape_by(reader: &Reader<'_>, steps: usize, schema: &Value) -> Read
     ensures { IfOk result (λ s. read_by reader.now steps (view schema.now) ≡ Some (shape_of s)) }
 {
-    schema_shape(reader, steps, false, schema)
+    let inner = Reader {
+        lookups: reader.inner_lookups,
+        ..*reader
+    };
+    schema_shape(&inner, steps, false, schema)
 }
 
 /// The shape of a schema, or of a part of `allOf`, of which a reference is looked up.
 #[cycle(read)]
 fn schema_shape(reader: &Reader<'_>, steps: usize, is_part: bool, schema: &Value) -> Read
-    ensures { IfOk result (λ s. shape_by (context_of reader.now) steps reader.now.lookups is_part (view schema.now) ≡ Some (shape_of s)) }
+    ensures { IfOk result (λ s. shape_by (context_of reader.now) steps reader.now.lookups reader.now.inner_lookups is_part (view schema.now) ≡ Some (shape_of s)) }
 {
     check_effort(reader)?;
     if steps == 0 {
@@ -134,11 +140,17 @@ fn schema_shape(reader: &Reader<'_>, steps: usize, is_part: bool, schema: &Value
     }
 }
 
-/// Refuses a document whose parts of `allOf` come to too much.
+/// That the parts of `allOf` of a document come to too much.
+#[inline(never)]
+fn too_much(alloc: Global) -> SchemaFault {
+    refusal(alloc, "the parts of \"allOf\" come to too much")
+}
+
+/// Refuses a document of which no more is read.
 fn check_effort(reader: &Reader<'_>) -> Result<(), SchemaFault> {
-    reader.base.effort.spend(1);
-    if reader.base.effort.is_spent() {
-        return Err(refusal(reader.alloc, "the parts of \"allOf\" come to too much"));
+    reader.effort.spend(1);
+    if reader.effort.is_spent() {
+        return Err(too_much(reader.alloc));
     }
     Ok(())
 }
@@ -147,16 +159,25 @@ fn check_effort(reader: &Reader<'_>) -> Result<(), SchemaFault> {
 fn meet_shapes(reader: &Reader<'_>, one: &Shape, other: &Shape) -> Read
     ensures { IfOk result (λ s. shape_of s ≡ meet reader.now.levels (shape_of one.now) (shape_of other.now)) }
 {
-    let shape = meet(&reader.base, reader.levels, one, other)?;
-    check_effort(reader)?;
-    Ok(shape)
+    let base = Base {
+        definitions: &[],
+        names: 0,
+        limit: 0,
+        effort: reader.effort,
+        alloc: reader.alloc,
+    };
+    match meet(&base, reader.levels, one, other) {
+        Ok(shape) => Ok(shape),
+        Err(Unmet::OutOfMemory) => Err(SchemaFault::OutOfMemory),
+        Err(Unmet::TooMuch) => Err(too_much(reader.alloc)),
+    }
 }
 
 /// The shape of a schema that is an object.
 #[cycle(read)]
 #[inline(never)]
 fn object_shape(reader: &Reader<'_>, steps: usize, is_part: bool, schema: &Value) -> Read
-    ensures { IfOk result (λ s. object_shape (context_of reader.now) (read_by reader.now steps) (part_by reader.now steps)
+    ensures { IfOk result (λ s. object_shape (context_of reader.now) reader.now.lookups (read_by reader.now steps) (part_by reader.now steps)
         (look_by reader.now steps) is_part (view schema.now) ≡ Some (shape_of s)) }
 {
     check_const(reader, schema)?;
@@ -176,7 +197,7 @@ fn referred_shape(
     schema: &Value,
     pointer: Bytes,
 ) -> Read
-    ensures { IfOk result (λ s. referred (context_of reader.now) (read_by reader.now steps) (part_by reader.now steps)
+    ensures { IfOk result (λ s. referred (context_of reader.now) reader.now.lookups (read_by reader.now steps) (part_by reader.now steps)
         (look_by reader.now steps) is_part (view schema.now) pointer ≡ Some (shape_of s)) }
 {
     if reader.draft.is_since_2019() && tells_more(schema) {
@@ -201,6 +222,7 @@ fn look_up(reader: &Reader<'_>, steps: usize, pointer: &[u8]) -> Read
     }
     let nearer = Reader {
         lookups: reader.lookups - 1,
+        inner_lookups: 0,
         ..*reader
     };
     match pointed(reader.root, pointer) {
@@ -215,7 +237,7 @@ fn look_up(reader: &Reader<'_>, steps: usize, pointer: &[u8]) -> Read
 /// The shape of a schema beside a `$ref` that is not looked up, if there is one.
 #[cycle(read)]
 fn beside_shape(reader: &Reader<'_>, steps: usize, schema: &Value) -> Read
-    ensures { IfOk result (λ s. beside_shape (context_of reader.now) (read_by reader.now steps) (part_by reader.now steps)
+    ensures { IfOk result (λ s. beside_shape (context_of reader.now) reader.now.lookups (read_by reader.now steps) (part_by reader.now steps)
         (look_by reader.now steps) (view schema.now) (get (codes "$ref") (view schema.now)) ≡ Some (shape_of s)) }
 {
     if schema.get("$ref").is_some() && !reader.draft.is_since_2019() {
@@ -227,7 +249,7 @@ fn beside_shape(reader: &Reader<'_>, steps: usize, schema: &Value) -> Read
 /// The shape of a schema by all but its `$ref`.
 #[cycle(read)]
 fn kinds_shape(reader: &Reader<'_>, steps: usize, schema: &Value) -> Read
-    ensures { IfOk result (λ s. kinds_shape (context_of reader.now) (read_by reader.now steps) (part_by reader.now steps)
+    ensures { IfOk result (λ s. kinds_shape (context_of reader.now) reader.now.lookups (read_by reader.now steps) (part_by reader.now steps)
         (look_by reader.now steps) (view schema.now) ≡ Some (shape_of s)) }
 {
     let kinds = kinds_in(reader.alloc, schema)?;
@@ -249,7 +271,7 @@ fn check_const(reader: &Reader<'_>, schema: &Value) -> Result<(), SchemaFault>
 /// The shape of values of these kinds, by all but a `$ref`.
 #[cycle(read)]
 fn plain_shape(reader: &Reader<'_>, steps: usize, schema: &Value, kinds: Kinds) -> Read
-    ensures { IfOk result (λ s. plain_shape (context_of reader.now) (read_by reader.now steps) (part_by reader.now steps)
+    ensures { IfOk result (λ s. plain_shape (context_of reader.now) reader.now.lookups (read_by reader.now steps) (part_by reader.now steps)
         (look_by reader.now steps) (view schema.now) kinds ≡ Some (shape_of s)) }
 {
     match schema.get("allOf") {
@@ -268,7 +290,7 @@ fn with_parts(
     kinds: Kinds,
     parts: &Value,
 ) -> Read
-    ensures { IfOk result (λ s. with_parts (context_of reader.now) (read_by reader.now steps) (part_by reader.now steps)
+    ensures { IfOk result (λ s. with_parts (context_of reader.now) reader.now.lookups (read_by reader.now steps) (part_by reader.now steps)
         (look_by reader.now steps) (view schema.now) kinds (view parts.now) ≡ Some (shape_of s)) }
 {
     if has_start(schema) {
@@ -279,32 +301,63 @@ fn with_parts(
     Ok(kept(reader.alloc, kinds, shape)?)
 }
 
-/// The shape that the parts of `allOf` share, where nothing stands beside them. A reference that is the only part stays one.
-#[cycle(read)]
-fn joint_shape(reader: &Reader<'_>, steps: usize, parts: &Value) -> Read
-    ensures { IfOk result (λ s. joint_shape (context_of reader.now) (read_by reader.now steps) (part_by reader.now steps)
-        (look_by reader.now steps) (view parts.now) ≡ Some (shape_of s)) }
+/// The first part of `allOf`, if it is a list that has one.
+fn first_of(parts: &Value) -> Option<&Value>
+    ensures { option_map (λ v. view v.now) result ≡ first_of (view parts.now) }
 {
     match parts {
-        Value::Array(list) => match list.as_slice() {
-            [part] => match shape_by(reader, steps, part) {
-                Ok(shape) => Ok(shape),
-                Err(fault) => {
-                    let fault = under(reader.alloc, fault, "0");
-                    Err(under(reader.alloc, fault, "allOf"))
-                }
-            },
-            [] => Ok(Shape::Anything),
-            [_, _, ..] => parts_shape(reader, steps, Shape::Anything, parts),
+        Value::Array(parts) => match parts.as_slice() {
+            [first, ..] => Some(first),
+            [] => None,
         },
-        _ => Ok(Shape::Anything),
+        _ => None,
+    }
+}
+
+/// Whether there is at most one.
+#[tactic(auto, using(crate::proofs::KindLemmas::item_counts))]
+fn is_single(parts: &[Value]) -> bool
+    ensures { result ≡ is_single (items_view parts.now) }
+{
+    parts.len() <= 1
+}
+
+/// Whether there is no other part.
+fn has_one(parts: &Value) -> bool
+    ensures { result ≡ has_one (view parts.now) }
+{
+    match parts {
+        Value::Array(parts) => is_single(parts.as_slice()),
+        _ => true,
+    }
+}
+
+/// The shape that the parts of `allOf` share, where nothing stands beside them. A part alone, and the first where none is
+/// looked up, may stay a reference.
+#[cycle(read)]
+fn joint_shape(reader: &Reader<'_>, steps: usize, parts: &Value) -> Read
+    ensures { IfOk result (λ s. joint_shape (context_of reader.now) reader.now.lookups (read_by reader.now steps) (part_by reader.now steps)
+        (look_by reader.now steps) (view parts.now) ≡ Some (shape_of s)) }
+{
+    if reader.lookups != 0 && !has_one(parts) {
+        return parts_shape(reader, steps, Shape::Anything, parts);
+    }
+    match first_of(parts) {
+        Some(part) => match shape_by(reader, steps, part) {
+            Ok(shape) => Ok(shape),
+            Err(fault) => {
+                let fault = under(reader.alloc, fault, "0");
+                Err(under(reader.alloc, fault, "allOf"))
+            }
+        },
+        None => Ok(Shape::Anything),
     }
 }
 
 /// The shape, met with that of each part of `allOf`.
 #[cycle(read)]
 fn parts_shape(reader: &Reader<'_>, steps: usize, shape: Shape, parts: &Value) -> Read
-    ensures { IfOk result (λ s. parts_shape (context_of reader.now) (read_by reader.now steps) (part_by reader.now steps)
+    ensures { IfOk result (λ s. parts_shape (context_of reader.now) reader.now.lookups (read_by reader.now steps) (part_by reader.now steps)
         (look_by reader.now steps) (shape_of shape) (view parts.now) ≡ Some (shape_of s)) }
 {
     match parts {
@@ -319,7 +372,7 @@ fn parts_shape(reader: &Reader<'_>, steps: usize, shape: Shape, parts: &Value) -
 /// The shape, met with that of each of these.
 #[cycle(read)]
 fn each_part(reader: &Reader<'_>, steps: usize, shape: Shape, parts: &[Value]) -> Read
-    ensures { IfOk result (λ s. fold (part_with (context_of reader.now) (read_by reader.now steps) (part_by reader.now steps)
+    ensures { IfOk result (λ s. fold (part_with (context_of reader.now) reader.now.lookups (read_by reader.now steps) (part_by reader.now steps)
         (look_by reader.now steps)) (shape_of shape) (items_view parts.now) ≡ Some (shape_of s)) }
 {
     let mut all = shape;

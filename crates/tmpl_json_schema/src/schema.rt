@@ -23,7 +23,7 @@ use crate::reference::{MOST_DEFINITIONS, fragment_of, is_listed, pointed, under_
 use serde_json::Value;
 use std::alloc::{AllocError, Global};
 use std::str::from_utf8;
-use tmpl_shape::{Base, Definition, Effort, Schema, Shape, copy_name};
+use tmpl_shape::{Definition, Effort, Schema, Shape, copy_name};
 use tmpl_values::Bytes;
 
 /// How many levels of a document are read, with those that are looked up: as many as 512 kB of stack take.
@@ -33,7 +33,7 @@ const LEVELS: usize = 90;
 const LOOKUPS: usize = 3;
 
 /// The most schemas that are read and shapes that are copied where parts of `allOf` are put together.
-const MOST_EFFORT: u64 = 2_000_000;
+const MOST_EFFORT: u64 = 8_000_000;
 
 /// The most values that a document may have, each item and member counted, and those that are read more than once as often.
 const MOST_VALUES: usize = 30_000;
@@ -129,7 +129,7 @@ fn add_name(alloc: Global, root: &Value, reference: &Value, names: &mut Vec<Byte
 
 /// The definition of what a pointer points to.
 fn definition_of(reader: &Reader<'_>, name: &[u8]) -> Result<Definition, SchemaFault>
-    ensures { IfOk result (λ d. IsDefinition (context_of reader.now) reader.now.lookups d) }
+    ensures { IfOk result (λ d. IsDefinition (context_of reader.now) reader.now.inner_lookups d) }
 {
     let Some(value) = pointed(reader.root, name) else {
         return Err(refusal(
@@ -148,7 +148,7 @@ fn definition_of(reader: &Reader<'_>, name: &[u8]) -> Result<Definition, SchemaF
 
 /// The definitions of what these pointers point to.
 fn definitions_of(reader: &Reader<'_>) -> Result<Vec<Definition>, SchemaFault>
-    ensures { IfOk result (λ ds. All (IsDefinition (context_of reader.now) reader.now.lookups) ds.items) }
+    ensures { IfOk result (λ ds. All (IsDefinition (context_of reader.now) reader.now.inner_lookups) ds.items) }
 {
     let mut definitions = Vec::new(reader.alloc);
     for name in reader.names {
@@ -387,19 +387,15 @@ fn schema_in(
         root,
         levels,
         lookups: 0,
-        base: Base {
-            definitions: &[],
-            names: 0,
-            limit: 0,
-            effort,
-            alloc,
-        },
+        inner_lookups: 0,
+        effort,
         alloc,
     };
     // So a fault in a definition is reported where it stands, and not where a part of `allOf` refers to it.
     definitions_of(&reader)?;
     let reader = Reader {
         lookups: LOOKUPS,
+        inner_lookups: LOOKUPS,
         ..reader
     };
     let shape = shape_by(&reader, levels, root)?;

@@ -2,19 +2,37 @@
 #![tactic(auto, using(crate::proofs::ViewLemmas::parts, crate::proofs::MeetLemmas::meets))]
 
 ghost use Rattle.std.specs.Prelude.{◌≡◌, IfOk};
-ghost use Rattle.tmpl_shape.specs.Shape.{Shape as shape};
+ghost use Rattle.tmpl_shape.specs.Shape.{others};
 ghost use Rattle.tmpl_shape.specs.View.{fields_of, shape_of};
 ghost use Rattle.tmpl_shape.specs.computed.Meet.{each_part, is_first_open, is_open, leaf_within, meet, meet_fields, meet_forms, meet_leaf, meet_one};
 ghost use Rattle.tmpl_shape.specs.computed.Meet.{meet_rest, or_shape, rest_shape, with_met, with_unlisted};
 ghost use Rattle.tmpl_shape.specs.computed.Shapes.{gathered};
 ghost use Rattle.tmpl_shape.specs.computed.View.{shape_seen};
+ghost use Rattle.tmpl_shape.specs.declared.intersection.Unmet.TheVariants as unmet;
 
 use crate::change::is_never;
 use crate::inclusion::{is_listed, is_required, shape_at, text_within};
-use crate::shape::{
-    Base, Fields, Shape, copy_counted, copy_shape, either, fields_of_all, list_of, put_field,
-};
+use crate::shape::{Base, Fields, Shape, copy_counted, either, fields_of_all, list_of, put_field};
 use std::alloc::{AllocError, Global};
+
+/// How many pairs of names are compared by the work of a step.
+const PAIRS: u64 = 16;
+
+/// Why two shapes are not met.
+#[derive(Clone, Copy)]
+pub enum Unmet {
+    OutOfMemory,
+    /// No work is left.
+    TooMuch,
+}
+
+impl From<AllocError> for Unmet {
+    ghost from_gives = { λ _ e. e ≡ unmet.OutOfMemory };
+
+    fn from(_: AllocError) -> Unmet {
+        Unmet::OutOfMemory
+    }
+}
 
 /// The values of the one and of the other, of which neither is kept where it has none.
 pub fn or_shape(alloc: Global, one: Shape, other: Shape) -> Result<Shape, AllocError>
@@ -107,6 +125,17 @@ fn rest_shape(fields: &Fields) -> Option<&Shape>
     }
 }
 
+/// How many fields are named.
+fn count_fields(fields: &Fields) -> u64 {
+    let mut count: u64 = 0;
+    let mut rest = fields;
+    while let Fields::Field(first) = rest {
+        count = count.saturating_add(1);
+        rest = &first.rest;
+    }
+    count
+}
+
 /// The fields of the others that are not named here, before the rest.
 fn with_unlisted(
     base: &Base<'_>,
@@ -130,12 +159,20 @@ fn with_unlisted(
 }
 
 /// The values that are of both, as far as this many steps show: where they show no more, those of the one.
+///
+/// # Errors
+///
+/// Where memory runs out, or no work is left.
 #[cycle(meet)]
-pub fn meet(base: &Base<'_>, steps: usize, one: &Shape, other: &Shape) -> Result<Shape, AllocError>
+pub fn meet(base: &Base<'_>, steps: usize, one: &Shape, other: &Shape) -> Result<Shape, Unmet>
     ensures { IfOk result (λ s. shape_of s ≡ meet steps (shape_of one.now) (shape_of other.now)) }
 {
+    if base.effort.is_spent() {
+        return Err(Unmet::TooMuch);
+    }
+    base.effort.spend(1);
     if steps == 0 {
-        return copy_counted(base, one);
+        return Ok(copy_counted(base, one)?);
     }
     let fewer = steps - 1;
     let mut back = Shape::Never;
@@ -145,13 +182,13 @@ pub fn meet(base: &Base<'_>, steps: usize, one: &Shape, other: &Shape) -> Result
         rest = second;
     }
     let last = meet_each(base, fewer, rest, other)?;
-    or_all(base.alloc, back, last)
+    Ok(or_all(base.alloc, back, last)?)
 }
 
 /// The values of a shape without alternatives that are of the other, of which each alternative is looked at.
 #[cycle(meet)]
 #[inline(never)]
-fn meet_each(base: &Base<'_>, steps: usize, one: &Shape, other: &Shape) -> Result<Shape, AllocError>
+fn meet_each(base: &Base<'_>, steps: usize, one: &Shape, other: &Shape) -> Result<Shape, Unmet>
     ensures { IfOk result (λ s. shape_of s ≡ each_part (meet steps (shape_of one.now)) (meet_one (meet steps) (shape_of one.now))
         (shape_of other.now)) }
 {
@@ -162,19 +199,19 @@ fn meet_each(base: &Base<'_>, steps: usize, one: &Shape, other: &Shape) -> Resul
         rest = second;
     }
     let last = meet_one(base, steps, one, rest)?;
-    or_all(base.alloc, back, last)
+    Ok(or_all(base.alloc, back, last)?)
 }
 
 /// The values that are of both, where neither has alternatives.
 #[cycle(meet)]
-fn meet_one(base: &Base<'_>, steps: usize, one: &Shape, other: &Shape) -> Result<Shape, AllocError>
+fn meet_one(base: &Base<'_>, steps: usize, one: &Shape, other: &Shape) -> Result<Shape, Unmet>
     ensures { IfOk result (λ s. shape_of s ≡ meet_one (meet steps) (shape_of one.now) (shape_of other.now)) }
 {
     if is_first_open(one, other) {
-        return copy_counted(base, other);
+        return Ok(copy_counted(base, other)?);
     }
     if is_open(other) {
-        return copy_counted(base, one);
+        return Ok(copy_counted(base, one)?);
     }
     meet_forms(base, steps, one, other)
 }
@@ -182,12 +219,7 @@ fn meet_one(base: &Base<'_>, steps: usize, one: &Shape, other: &Shape) -> Result
 /// The values that are of both, where each is of one kind.
 #[cycle(meet)]
 #[inline(never)]
-fn meet_forms(
-    base: &Base<'_>,
-    steps: usize,
-    one: &Shape,
-    other: &Shape,
-) -> Result<Shape, AllocError>
+fn meet_forms(base: &Base<'_>, steps: usize, one: &Shape, other: &Shape) -> Result<Shape, Unmet>
     ensures { IfOk result (λ s. shape_of s ≡ meet_forms (meet steps) (shape_of one.now) (shape_of other.now)) }
 {
     match (one, other) {
@@ -199,12 +231,12 @@ fn meet_forms(
             },
         ) => {
             let items = meet(base, steps, items, others)?;
-            list_of(base.alloc, (*least).max(*fewest), items)
+            Ok(list_of(base.alloc, (*least).max(*fewest), items)?)
         }
         (Shape::Record(fields), Shape::Record(others)) => {
             Ok(Shape::Record(meet_fields(base, steps, fields, others)?))
         }
-        _ => meet_leaf(base, one, other),
+        _ => Ok(meet_leaf(base, one, other)?),
     }
 }
 
@@ -215,12 +247,21 @@ fn meet_fields(
     steps: usize,
     fields: &Fields,
     others: &Fields,
-) -> Result<Fields, AllocError>
+) -> Result<Fields, Unmet>
     ensures { IfOk result (λ fs. fields_of fs ≡ meet_fields (meet steps) (fields_of fields.now) (fields_of others.now)) }
 {
+    let pairs = count_fields(fields).saturating_mul(count_fields(others));
+    base.effort.spend(pairs / PAIRS);
     let rest = meet_rest(base, steps, rest_shape(fields), rest_shape(others))?;
     let unlisted = with_unlisted(base, fields, others, rest)?;
     with_met(base, steps, others, fields, unlisted)
+}
+
+/// Any fields of a shape.
+fn others_of(alloc: Global, shape: Shape) -> Result<Fields, AllocError>
+    ensures { IfOk result (λ fs. fields_of fs ≡ others (shape_of shape)) }
+{
+    Ok(Fields::Others(Box::new(alloc, shape)?))
 }
 
 /// The fields that neither names.
@@ -230,13 +271,13 @@ fn meet_rest(
     steps: usize,
     one: Option<&Shape>,
     other: Option<&Shape>,
-) -> Result<Fields, AllocError>
+) -> Result<Fields, Unmet>
     ensures { IfOk result (λ fs. fields_of fs ≡ meet_rest (meet steps) (shape_seen one.entry) (shape_seen other.entry)) }
 {
     match (one, other) {
         (Some(one), Some(other)) => {
             let shape = meet(base, steps, one, other)?;
-            Ok(Fields::Others(Box::new(base.alloc, shape)?))
+            Ok(others_of(base.alloc, shape)?)
         }
         _ => Ok(Fields::Closed),
     }
@@ -250,7 +291,7 @@ fn with_met(
     others: &Fields,
     fields: &Fields,
     rest: Fields,
-) -> Result<Fields, AllocError>
+) -> Result<Fields, Unmet>
     ensures { IfOk result (λ fs. fields_of fs ≡ with_met (meet steps) (fields_of others.now) (fields_of fields.now) (fields_of rest)) }
 {
     let mut back = Fields::Closed;
@@ -265,5 +306,5 @@ fn with_met(
         back = put_field(base.alloc, name, is_required, shape, back)?;
         left = &first.rest;
     }
-    fields_of_all(base.alloc, back, rest)
+    Ok(fields_of_all(base.alloc, back, rest)?)
 }

@@ -11,7 +11,7 @@ use Rattle.tmpl_json_schema.specs.computed.Reading.{Context, shape_by}
 
 -- its name is the pointer to what its shape was read of
 abbrev pub IsDefinition : Context → ℕ → Definition → Type 0
-IsDefinition c k d = (v : Data) × (pointer d.name c.root ≡ Some v) × (shape_by c c.levels k false v ≡ Some (shape_of d.shape))
+IsDefinition c k d = (v : Data) × (pointer d.name c.root ≡ Some v) × (shape_by c c.levels k k false v ≡ Some (shape_of d.shape))
 
 -- each of the names has a definition
 abbrev pub are_defined : Defs → List (List ℕ) → Bool

@@ -1,5 +1,5 @@
 -- The shape that is computed for what stands in a document.
-use Rattle.std.specs.Prelude.{ℕ, zero, suc, nat_le, Bool, true, false, not, ◌&&◌, ◌||◌, List, [], ◌∷◌, Option, Some, None}
+use Rattle.std.specs.Prelude.{ℕ, zero, suc, nat_le, Bool, true, false, not, ◌&&◌, ◌||◌, ◌==◌, List, [], ◌∷◌, Option, Some, None}
 use Rattle.std.specs.Prelude.{if◌then◌else◌, codes, is_some, unwrap_or}
 use Rattle.std.specs.Option.{option_map, option_map_or, option_and_then}
 use Rattle.std.specs.Str.{bytes_eq}
@@ -250,7 +250,19 @@ listed_in names d = None
 abbrev pub has_start : Data → Bool
 has_start d = has_content d || is_some (choices_in d)
 
--- .. or parts
+-- the first part of `allOf`, and whether there is no other
+abbrev pub first_of : Data → Option Data
+first_of (json.array (json.item d ds)) = Some d
+first_of d = None
+
+abbrev pub is_single : Items → Bool
+is_single ds = nat_le (item_count ds) 1
+
+abbrev pub has_one : Data → Bool
+has_one (json.array ds) = is_single ds
+has_one d = true
+
+-- there are keywords of fields and items, alternatives, or parts
 abbrev pub tells_more : Data → Bool
 tells_more d = has_start d || is_some (get (codes "allOf") d)
 
@@ -315,7 +327,8 @@ pub record Context : Type 0 where
   pub root : Data
   pub levels : ℕ
 
-module _ (c : Context) (read part : Data → Option Shape) (look : List ℕ → Option Shape) where
+-- where as many references are looked up, one in the other
+module _ (c : Context) (k : ℕ) (read part : Data → Option Shape) (look : List ℕ → Option Shape) where
   -- the shape met with that of each part of `allOf`
   abbrev pub part_with : Shape → Data → Option Shape
   part_with s d = option_map (meet c.levels s) (part d)
@@ -324,10 +337,9 @@ module _ (c : Context) (read part : Data → Option Shape) (look : List ℕ → 
   parts_shape s (json.array ds) = fold part_with s ds
   parts_shape s d = Some s
 
-  -- where nothing stands beside it: that of the one part, or of all
+  -- where nothing stands beside it: that of the one part, or of all; where none is looked up that of the first
   abbrev pub joint_shape : Data → Option Shape
-  joint_shape (json.array (json.item d no_items)) = read d
-  joint_shape d = parts_shape anything d
+  joint_shape d = if k == 0 || has_one d then option_map_or read (first_of d) (Some anything) else parts_shape anything d
 
   abbrev pub with_parts : Data → Kinds → Data → Option Shape
   with_parts d ks l = if has_start d then option_and_then (λ s. parts_shape s l) (start_shape read d ks) else option_map (keep_kinds ks) (joint_shape l)
@@ -365,11 +377,12 @@ module _ (c : Context) where
   looked_up read zero p = Some (named p)
   looked_up read (suc k) p = option_and_then (read k) (pointer p c.root)
 
-  -- the shape of a schema, or of a part of one; what stands inside it is read as many levels deep
-  abbrev pub shape_by : ℕ → ℕ → Bool → Data → Option Shape
-  shape_by zero k is_part d = None
-  shape_by (suc n) k is_part d =
-      shape_read c (shape_by n k false) (shape_by n k true) (looked_up (λ j. shape_by n j true) k) is_part d
+  -- the shape of a schema, or of a part of one; what stands inside it is read as many levels deep, with as many look-ups,
+  -- but none inside what is looked up
+  abbrev pub shape_by : ℕ → ℕ → ℕ → Bool → Data → Option Shape
+  shape_by zero k i is_part d = None
+  shape_by (suc n) k i is_part d =
+      shape_read c k (shape_by n i i false) (shape_by n k i true) (looked_up (λ j. shape_by n j 0 true) k) is_part d
 
 -- ---- what a reader reads, where as many levels are left
 
@@ -377,10 +390,10 @@ abbrev pub context_of : held_reader.Reader → Context
 context_of r = record { draft = r.draft; names = r.names.now; root = view r.root.now; levels = r.levels }
 
 abbrev pub read_by : held_reader.Reader → ℕ → Data → Option Shape
-read_by r n = shape_by (context_of r) n r.lookups false
+read_by r n = shape_by (context_of r) n r.inner_lookups r.inner_lookups false
 
 abbrev pub part_by : held_reader.Reader → ℕ → Data → Option Shape
-part_by r n = shape_by (context_of r) n r.lookups true
+part_by r n = shape_by (context_of r) n r.lookups r.inner_lookups true
 
 abbrev pub look_by : held_reader.Reader → ℕ → List ℕ → Option Shape
-look_by r n = looked_up (context_of r) (λ j. shape_by (context_of r) n j true) r.lookups
+look_by r n = looked_up (context_of r) (λ j. shape_by (context_of r) n j 0 true) r.lookups

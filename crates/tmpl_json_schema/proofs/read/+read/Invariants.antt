@@ -23,7 +23,7 @@ invariant-with_each_pattern-loop-pattern l =
 
 abbrev pub invariant-each_part-loop-part : goal.invariant-each_part-loop-part
 invariant-each_part-loop-part l =
-    let w = part_with (context_of l.fn.reader) (read_by l.fn.reader l.fn.steps) (part_by l.fn.reader l.fn.steps) (look_by l.fn.reader l.fn.steps) in
+    let w = part_with (context_of l.fn.reader) l.fn.reader.lookups (read_by l.fn.reader l.fn.steps) (part_by l.fn.reader l.fn.steps) (look_by l.fn.reader l.fn.steps) in
     fold w (shape_of l.fn.shape) (items_view l.parts) ≡ fold w (shape_of l.all) (items_view (drop l.part-index l.parts))
 
 abbrev pub decreases-shape_by : goal.decreases-shape_by
@@ -71,9 +71,6 @@ decreases-each_part l = 20 * l.steps + 3
 abbrev pub decreases-parts_shape : goal.decreases-parts_shape
 decreases-parts_shape l = 20 * l.steps + 4
 
-abbrev pub decreases-joint_shape : goal.decreases-joint_shape
-decreases-joint_shape l = 20 * l.steps + 5
-
 abbrev pub decreases-with_parts : goal.decreases-with_parts
 decreases-with_parts l = 20 * l.steps + 10
 
@@ -94,3 +91,6 @@ decreases-referred_shape l = 20 * l.steps + 14
 
 abbrev pub decreases-object_shape : goal.decreases-object_shape
 decreases-object_shape l = 20 * l.steps + 15
+
+abbrev pub decreases-joint_shape : goal.decreases-joint_shape
+decreases-joint_shape l = 20 * l.steps + 6

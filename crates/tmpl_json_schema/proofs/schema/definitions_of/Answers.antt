@@ -6,7 +6,7 @@ use Rattle.tmpl_json_schema.proofs.schema.definitions_of.Goals as goal
 
 pub loop-name-preserved : goal.loop-name-preserved
 loop-name-preserved c =
-    let P = IsDefinition (context_of c.args.reader.now) c.args.reader.now.lookups in
+    let P = IsDefinition (context_of c.args.reader.now) c.args.reader.now.inner_lookups in
     let old = c.loop-name.definitions.items in
     let new = c.in_ok-definition_of.field-0 in
     All-same P c.push.new.self.items (old ++ new ∷ []) c.in_ok-push.ensures.items (All-push P old new c.loop-name.invariant c.in_ok-definition_of.ensures)

@@ -19,5 +19,5 @@ returns-clause-fits c =
     let all : All (IsDefinition context 3) ds = c.in_ok-definitions.ensures in
     let defined : are_defined (defs_in ds) names ≡ true = search rules in
     let looked : AreLookedUp root names = c.are_looked_up.ensures c.if-not-are_looked_up.false is-of in
-    let is : shape_by context c.args.levels 3 false root ≡ Some shape = search rules in
+    let is : shape_by context c.args.levels 3 3 false root ≡ Some shape = search rules in
     λ v h. document-fits context is-of 3 ds shape looked all defined is h.0 v h.1

@@ -1,5 +1,5 @@
-use Rattle.std.proofs.Common.{◌≡◌, ◌∙◌, ◌-◌, IfOk, ap, sym, subst}
-use Rattle.tmpl_shape.specs.Shape.{Shape, Fields}
+use Rattle.std.proofs.Common.{◌≡◌, ◌∙◌, ◌-◌, ap, sym}
+use Rattle.tmpl_shape.specs.Shape.{Shape}
 use Rattle.tmpl_shape.specs.View.{fields_of, shape_of}
 use Rattle.tmpl_shape.specs.computed.Meet.{each_part, meet, meet_one, or_shape, with_met}
 use Rattle.tmpl_shape.specs.computed.Shapes.{gathered, onto}
@@ -18,7 +18,7 @@ meet-returns t c =
     let all : meet c.args.steps one other ≡ back (shape_of c.in_ok-last.last) =
     meet-next c.args.steps one other c.if-steps-eq0.false ∙ sym c.loop-rest.invariant
     ∙ ap back (each-ends f g c.loop-rest.rest.now c.in_default.not-Either ∙ sym c.in_ok-last.ensures) in
-    subst (λ (s : Shape). IfOk c.or_all.result (λ x. shape_of x ≡ s)) (sym all) c.or_all.ensures
+    c.in_ok-or_all.ensures ∙ sym all
 
 pub meet_each-returns : goal.meet_each-returns
 meet_each-returns t c =
@@ -28,7 +28,7 @@ meet_each-returns t c =
     let back = gathered or_shape (shape_of c.loop-rest.back) in
     let all : each_part f g (shape_of c.args.other.now) ≡ back (shape_of c.in_ok-last.last) =
     sym c.loop-rest.invariant ∙ ap back (each-ends f g c.loop-rest.rest.now c.in_default.not-Either ∙ sym c.in_ok-last.ensures) in
-    subst (λ (s : Shape). IfOk c.or_all.result (λ x. shape_of x ≡ s)) (sym all) c.or_all.ensures
+    c.in_ok-or_all.ensures ∙ sym all
 
 pub with_met-returns : goal.with_met-returns
 with_met-returns t c =
@@ -39,4 +39,4 @@ with_met-returns t c =
     let left = c.loop-left.left.now in
     let all : with_met m gs (fields_of c.args.fields.now) rest ≡ back rest =
     c.loop-left.invariant ∙ ap back (met-ends m gs (fields_of left) rest (is-end left c.in_default.not-Field)) in
-    subst (λ (fs : Fields). IfOk c.fields_of_all.result (λ x. fields_of x ≡ fs)) (sym all) c.fields_of_all.ensures
+    c.in_ok-fields_of_all.ensures ∙ sym all
