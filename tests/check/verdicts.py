@@ -251,9 +251,9 @@ def beside_results(folder):
 
 def held_results(folder):
     """Data that is held to a schema: an error at each place at which it does not conform, with the line of the keyword."""
+    write(folder, "t", "text")
     for title, schema, data, wanted in schema_rows.HELD:
         write(folder, "s", schema)
-        write(folder, "t", "text")
         write(folder, "d", data)
         came = ran([harness.CHECKER, "--schema", "s", "--data", "d", "t"], folder)
         lines = ["d:" + it.replace(": ", ": error: does not conform: ", 1) + " at s:1" for it in wanted]
