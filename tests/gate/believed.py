@@ -28,7 +28,7 @@ LIBRARY = tuple(("tmpl_c", "src/lib.rt", f'pub extern "C" fn {name}(') for name 
 # .. and those of what `tmpl-check` says
 CHECK = (
     ("tmpl_syntax", "src/examine.rt", "pub fn examine_file"),
-    ("tmpl_json_schema", "src/check.rt", "pub fn check_document"),
+    ("tmpl_report", "src/check.rt", "pub fn check_document"),
     ("tmpl_report", "src/samples/search.rt", "pub fn failures_of"),
     ("tmpl_report", "src/findings.rt", "pub fn findings_of"),
     ("tmpl_report", "src/findings.rt", "pub fn text"),

@@ -38,7 +38,7 @@ TRIED = {
     "tmpl_formats": "a_column_too_few stack_forgotten single_quote_left_open word_of_yaml_1_1_taken marks_over_an_alternative",
     "tmpl_grammar": "range_assigns octal_escape_past_a_byte",
     "tmpl_hints": "end_told_as_a_jump broken_byte_told_by_a_mark",
-    "tmpl_json_schema": "keyword_of_no_list last_part_of_all most_items_taken_for_least type_of_the_last_sample_only",
+    "tmpl_json_schema": "keyword_of_no_list most_items_taken_for_least too_much_taken_for_no_value type_of_the_last_sample_only",
     "tmpl_problems": "newline_as_it_is piped_value_is_no_argument more_than_the_refusals one_brace_and_a_space_is_a_sign fraction_accepted",
     "tmpl_report": (
         "data_problem_by_another_rule errors_only_where_all_are note_told_as_an_error line_and_column_exchanged key_without_quotes"

@@ -189,7 +189,12 @@ def narrowing(draw):
 def drawn_object(draw, depth):
     """A schema of maps, mostly."""
     out = drawn_fields(draw, depth)
-    return {**out, **narrowing(draw)} if draw.random() < 0.25 else out
+    more = draw.random()
+    if more < 0.25:
+        return {**out, **narrowing(draw)}
+    if more < 0.4 and depth > 0:
+        return {**out, draw.choice(["anyOf", "oneOf"]): [drawn_part_of_all(draw, depth - 1) for _ in range(draw.randrange(1, 4))]}
+    return out
 
 
 def drawn_fields(draw, depth):
@@ -270,8 +275,10 @@ def drawn_value(draw, root, schema, depth):
     if "allOf" in schema:
         return drawn_together(draw, root, schema, depth)
     for keyword in ("anyOf", "oneOf"):
-        if keyword in schema and "properties" not in schema:
-            return drawn_value(draw, root, draw.choice(schema[keyword]), depth)
+        if keyword in schema:
+            own = {name: it for name, it in schema.items() if name not in ("anyOf", "oneOf")}
+            one = draw.choice(schema[keyword])
+            return drawn_together(draw, root, {**own, "allOf": [one]}, depth) if "properties" in own else drawn_value(draw, root, one, depth)
     types = schema.get("type", "object")
     name = types if isinstance(types, str) else draw.choice(types)
     return drawn_of_type(draw, root, schema, depth, name)

@@ -48,6 +48,9 @@ DRAFT_2019 = {"$schema": "https://json-schema.org/draft/2019-09/schema"}
 TCP, UDP, UNIX = of({"kind": {"const": "tcp"}, "port": WHOLE}), of({"kind": {"const": "udp"}, "port": WHOLE}), of({"kind": {"const": "unix"}, "path": TEXT})
 NET, PIPE = of({"kind": {"enum": ["tcp", "udp"]}, "port": WHOLE}), of({"kind": {"enum": ["pipe", "fifo"]}, "name": TEXT})
 UNION = {"oneOf": [TCP, UNIX]}
+# maps that may have more members
+OPEN = {"additionalProperties": True}
+OPEN_TCP, OPEN_UNIX = {**TCP, **OPEN}, {**UNIX, **OPEN}
 # what is told more of a map
 MORE = {"type": "object", "required": ["b"], "properties": {"b": TEXT}}
 MAYBES = of({"xs": {"type": "array", "items": of({"a": MAYBE})}, "m": MAYBE})
@@ -68,6 +71,13 @@ ACCEPTED = [
     ("constants", of({"a": {"const": "x"}, "b": {"enum": [1, 2]}}), '{{eq .a "y"}}{{lt .b 3}}', []),
     ("type beside constants", of({"a": {"type": "integer", "enum": [1, "x"]}}), "{{lt .a 3}}", []),
     ("alternatives beside properties only narrow", of({"a": TEXT, "b": TEXT}, ["a"], anyOf=[{"required": ["b"]}]), "{{.a}}", []),
+    ("required in each alternative beside properties", of({"a": TEXT}, [], anyOf=[{"required": ["a"]}, {"required": ["b", "a"]}]), "{{len .a}}", []),
+    ("a tag beside the alternatives that it tells apart", of({"kind": TEXT}, oneOf=[OPEN_TCP, OPEN_UNIX], **OPEN), '{{if eq .kind "tcp"}}{{lt .port 3}}{{else}}{{len .path}}{{end}}', []),
+    ("references as alternatives beside properties", {"$defs": {"t": OPEN_TCP, "u": OPEN_UNIX}, **of({"kind": TEXT}, oneOf=[{"$ref": "#/$defs/t"}, {"$ref": "#/$defs/u"}], **OPEN)},
+     '{{if eq .kind "tcp"}}{{lt .port 3}}{{else}}{{len .path}}{{end}}', []),
+    ("alternatives beside properties of items", of({"us": {"type": "array", "items": of({"kind": TEXT, "n": WHOLE}, oneOf=[OPEN_TCP, OPEN_UNIX], **OPEN)}}),
+     '{{range .us}}{{lt .n 3}}{{if eq .kind "tcp"}}{{lt .port 3}}{{end}}{{end}}', []),
+    ("alternatives beside properties and parts", of({"a": {}}, anyOf=[{"properties": {"a": TEXT}}, {"properties": {"a": ITEMS}}], allOf=[MORE], **OPEN), "{{len .a}}{{len .b}}", []),
     ("required without a property", {"type": "object", "required": ["a"], "additionalProperties": TEXT}, "{{len .a}}", []),
     ("no value fits", of({"a": False}), "{{.a.b.c}}", []),
     ("escapes of a pointer", of({"a": {"$ref": "#/$defs/x~1y"}, "b": {"$ref": "#/$defs/p%25q"}, "c": {"$ref": "#/$defs/u~0v"}},
@@ -448,7 +458,10 @@ REFUSED = [
      '1:1: error: may fail: .a may be absent: not in "required" of s:1'),
     ("parts of allOf four references deep", {"allOf": [{"$ref": "#/$defs/a"}, {}], "$defs": {
         "a": {"allOf": [{"$ref": "#/$defs/b"}, {}]}, "b": {"allOf": [{"$ref": "#/$defs/c"}, {}]}, "c": {"allOf": [{"$ref": "#/$defs/d"}, {"required": ["x"]}]},
-        "d": {"type": "object", "properties": {"x": TEXT}}}}, "{{.x}}", [], '1:1: error: may fail: .x may be absent: no "required" at s:1'),
+        "d": {"type": "object", "properties": {"x": TEXT}}}}, "{{.x}}", [], "1:1: error: may fail: .x of nothing, which may come here and has no fields"),
+    ("an alternative beside properties that does not require the field", of({"a": TEXT}, [], anyOf=[{"required": ["a"]}, {"required": ["b"]}]), "{{.a}}", [],
+     '1:1: error: may fail: .a may be absent: not in "required" of s:1'),
+    ("33 alternatives beside properties", of({"a": TEXT}, [], anyOf=[{"required": ["a"]}] * 33), "{{.a}}", [], '1:1: error: may fail: .a may be absent: not in "required" of s:1'),
     ("properties beside a reference of draft-07", {"$ref": "#/definitions/x", "required": ["a"], "definitions": {"x": {"type": "object", "properties": {"a": TEXT}}}, **DRAFT_07},
      "{{.a}}", [], '1:1: error: may fail: .a may be absent: no "required" at s:1'),
     ("items after a prefix", of({"a": {"type": "array", "prefixItems": [WHOLE], "items": TEXT}}), "{{range .a}}{{len .}}{{end}}", [], LENGTH % 13),
@@ -577,6 +590,8 @@ SHOWN = [
     ("allOf", of({"a": {"allOf": [{"enum": [1, 2]}, {"enum": [2, 3]}]}}), CALL, [], shown({"a": 2})),
     ("maps of allOf", {"allOf": [{"type": "object", "required": ["a"], "properties": {"a": WHOLE}}, {"type": "object", "required": ["b"], "properties": {"b": TEXT}}]}, CALL, [],
      shown({"a": 1, "b": "a"})),
+    ("alternatives beside properties", of({"a": WHOLE}, anyOf=[of({"b": TEXT}, **OPEN)], **OPEN), CALL, [], shown({"a": 1, "b": "a"})),
+    ("properties beside a reference", {"$ref": "#/$defs/x", "required": ["b"], "properties": {"b": TEXT}, "$defs": {"x": of({"a": WHOLE}, **OPEN)}}, CALL, [], shown({"a": 1, "b": "a"})),
     ("if and then", of({"a": {"enum": [1, 2], "if": {"const": 1}, "then": False}}), CALL, [], shown({"a": 2})),
     ("if and else", of({"a": {"enum": [1, 2], "if": {"const": 2}, "else": False}}), CALL, [], shown({"a": 2})),
     ("if of draft-06", of({"a": {"enum": [1], "if": {"const": 1}, "then": False}}, **DRAFT_06), CALL, [], shown()),
@@ -925,6 +940,13 @@ HOSTILE = [
     ("5,000 alternatives beside a type", {"type": "string", "oneOf": [True] * 5_000}, "{{len .}}", [], "more than 1500 alternatives"),
     ("5,000 alternatives in two lists", {"anyOf": [{"anyOf": [True] * 1_000}] * 5}, "{{len .}}", [], "more than 1500 alternatives"),
     ("5,000 alternatives that are not looked at", {"type": "object", "properties": {}, "anyOf": [True] * 5_000}, "x", [], None),
+    ("1,000 alternatives and 1,000 others in one allOf", {"allOf": [{"anyOf": [of({name: TEXT}) for name in MANY[start:start + 1_000]]} for start in (0, 1_000)]},
+     "{{if .}}{{print .}}{{end}}", [], None),
+    ("100 alternatives and 100 others in one allOf", {"allOf": [{"anyOf": [of({name: TEXT}) for name in MANY[start:start + 100]]} for start in (0, 1_000)]},
+     "{{if .}}{{print .}}{{end}}", [], None),
+    ("12 parts of two alternatives each", {"allOf": [{"anyOf": [of({one: TEXT}), of({other: TEXT})]} for one, other in zip(MANY[:12], MANY[12:24])]},
+     "{{if .}}{{print .}}{{end}}", [], None),
+    ("32 alternatives beside 3,000 properties", {"anyOf": [{"required": [name]} for name in MANY[:32]], **of({name: TEXT for name in MANY[:3_000]}, [])}, "{{.name3}}", DEFAULT, None),
     ("5,000 types", {"type": ["string"] * 5_000}, "{{len .}}", [], None),
     ("9,900 constants", {"enum": MANY}, "{{len .}}", [], None),
     ("9,900 constants, none of which is a map", {"enum": MANY}, "{{.x}}", DEFAULT, ".x of a text, which may come here"),

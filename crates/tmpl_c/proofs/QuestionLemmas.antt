@@ -6,12 +6,11 @@ use Rattle.std.specs.Option.{option_map_or}
 use Rattle.serde_json.specs.Data.{Data}
 use Rattle.tmpl_syntax.specs.Parse.{base_name}
 use Rattle.tmpl_syntax.specs.Set.{Template}
-use Rattle.tmpl_report.specs.Safe.{AreAccepted, IsSafe, asked_name}
+use Rattle.tmpl_report.specs.Safe.{AreAccepted, IsSafe, NeverFailsOver, asked_name}
 use Rattle.tmpl_report.specs.declared.source.Question as report
 use Rattle.tmpl_report.specs.declared.source.Source.{Source}
 use Rattle.tmpl_report.specs.declared.source.Sources.{Sources}
 use Rattle.tmpl_json_schema.specs.Document.{document_of}
-use Rattle.tmpl_json_schema.specs.Safe.{NeverFailsOver}
 use Rattle.tmpl_tool.specs.Source.{Bytes}
 use Rattle.tmpl_c.specs.Passed.{pair_of, pairs_of}
 use Rattle.tmpl_c.specs.Question.{AreAdded, NeverFails, first_name, mode_asked, name_asked, stops_asked}

@@ -9,10 +9,9 @@ use Rattle.tmpl_syntax.proofs.ReadingLemmas.{has-one-outcome, has-outcome}
 use Rattle.tmpl_meaning.specs.Meaning.{Fault, Rules, ran}
 use Rattle.tmpl_schema.specs.Safe.{MayEnd}
 use Rattle.tmpl_json_schema.specs.Document.{IsOfSchema, document_of}
-use Rattle.tmpl_json_schema.specs.Safe.{NeverFailsOver}
 use Rattle.serde_json.specs.Data.{Data}
 use Rattle.tmpl_report.specs.Safe as report
-use Rattle.tmpl_report.specs.Safe.{AreAccepted}
+use Rattle.tmpl_report.specs.Safe.{AreAccepted, NeverFailsOver}
 use Rattle.tmpl_report.specs.declared.source.Source.{Source}
 use Rattle.tmpl_tool.specs.Source.{Bytes, Files}
 use Rattle.tmpl_tool.specs.Tool.{asked_name, load_each, no_read, run_answer, tool_answer}

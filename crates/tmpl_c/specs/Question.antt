@@ -6,7 +6,7 @@ use Rattle.tmpl_syntax.specs.Set.{Template}
 use Rattle.tmpl_meaning.specs.declared.missing_key.MissingKey.{MissingKey}
 use Rattle.tmpl_meaning.specs.declared.missing_key.MissingKey.TheVariants.{Default, Invalid, Zero, Error}
 use Rattle.tmpl_json_schema.specs.Document.{document_of}
-use Rattle.tmpl_json_schema.specs.Safe.{NeverFailsOver}
+use Rattle.tmpl_report.specs.Safe.{NeverFailsOver}
 use Rattle.tmpl_report.specs.Finding.{Finding, has_error}
 use Rattle.tmpl_report.specs.Told.{told}
 use Rattle.tmpl_report.specs.declared.findings.Format.{Format}

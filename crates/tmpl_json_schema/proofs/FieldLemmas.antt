@@ -1,10 +1,10 @@
 -- For the call `read_schema`: the fields that are computed are those of the maps that conform.
-use Rattle.std.proofs.Common.{◌≡◌, Bool, true, false, List, ℕ, Option, Some, None, IfSome, IsSome, is_some, inl, inr, refl, sym, subst, if◌then◌else◌}
-use Rattle.std.specs.Option.{option_map, option_and_then}
+use Rattle.std.proofs.Common.{◌≡◌, Bool, true, false, List, ℕ, Option, Some, IfSome, IsSome, is_some, inl, inr, refl, sym, subst, if◌then◌else◌}
+use Rattle.std.specs.Option.{option_and_then}
 use Rattle.std.specs.Str.{bytes_eq}
 use Rattle.std.proofs.lemmas.Bool.{false≢true}
 use Rattle.serde_json.specs.Data as json
-use Rattle.serde_json.specs.Data.{Data, Items, no_items, Members, no_members, member}
+use Rattle.serde_json.specs.Data.{Data, Items, no_items}
 use Rattle.serde_json.specs.Find.{get}
 use Rattle.tmpl_values.specs.Value.{Value, Entries, mapping}
 use Rattle.tmpl_values.specs.Field.{entry_at}
@@ -12,9 +12,8 @@ use Rattle.tmpl_shape.specs.Shape.{Shape, Names, Fields, no_field, others, field
 use Rattle.tmpl_shape.specs.computed.Shapes.{is_never}
 use Rattle.tmpl_shape.proofs.MeetLemmas.{never-has}
 use Rattle.tmpl_shape.proofs.ShapeLemmas.{or_cases, same_name}
-use Rattle.tmpl_json_schema.specs.Document.{EachKey, HasKeys, is_property, FitsProperty}
-use Rattle.tmpl_json_schema.specs.computed.Reading.{fold, fold_members, rest_of, shape_of_rest, with_required, is_key, is_required}
-use Rattle.tmpl_json_schema.specs.computed.Reading.{with_property}
+use Rattle.tmpl_json_schema.specs.Document.{EachKey, HasKeys}
+use Rattle.tmpl_json_schema.specs.computed.Reading.{fold, rest_of, shape_of_rest, with_required, is_key, is_required}
 use Rattle.tmpl_json_schema.proofs.KindLemmas.{is-some, not-some}
 
 module _ (N : Names) where
@@ -79,36 +78,6 @@ module _ (N : Names) where
   ]
   is_key-has k (json.item d ds) es e h = is_key-has k ds es e h.1
 
-  required-key-has : (k : List ℕ) (req : Option Data) (es : Entries) → is_required k req ≡ true → IfSome req (HasKeys (mapping es)) → IsSome (entry_at k es)
+  pub required-key-has : (k : List ℕ) (req : Option Data) (es : Entries) → is_required k req ≡ true → IfSome req (HasKeys (mapping es)) → IsSome (entry_at k es)
   required-key-has k (Some (json.array ds)) es e h = is_key-has k ds es e h
   required-key-has k req es e h = absurd (false≢true e)
-
-  -- ---- properties
-
-  module _ (read : Data → Option Shape) (C : Data → Value → Type 0) (ok : (d : Data) (s : Shape) (v : Value) → read d ≡ Some s → C d v → HasShape N s v) where
-    pub properties-fields : (req : Option Data) (ms : Members) (fs gs : Fields) (k : List ℕ) (v : Value) → fold_members (with_property read req) fs ms ≡ Some gs
-        → FitsProperty C ms k v → (is_property k ms ≡ false → IsField N fs k v) → IsField N gs k v
-    properties-fields req no_members fs gs k v e fits is = is-some (λ f. IsField N f k v) fs gs e (is refl)
-    properties-fields req (member l d ms) fs gs k v e fits is = by (read d) refl e (λ hs f x. properties-fields req ms hs gs k v f fits.1 x)
-      where
-        put : (s : Shape) → read d ≡ Some s → (c : Bool) → bytes_eq k l ≡ c → is_property k ms ≡ false → IsField N (field l (is_required l req) s fs) k v
-        put s e true same none = inl (same, ok d s v e (fits.0 same))
-        put s e false other none = inr (other, is (rw (other, none) refl))
-
-        by : (o : Option Shape) → read d ≡ o
-            → option_and_then (λ b. fold_members (with_property read req) b ms) (option_map (λ s. field l (is_required l req) s fs) o) ≡ Some gs
-            → ((hs : Fields) → fold_members (with_property read req) hs ms ≡ Some gs → (is_property k ms ≡ false → IsField N hs k v) → IsField N gs k v)
-            → IsField N gs k v
-        by None r f more = absurd (not-some gs f)
-        by (Some s) r f more = more (field l (is_required l req) s fs) f (put s r (bytes_eq k l) refl)
-
-    pub properties-has : (req : Option Data) (ms : Members) (fs gs : Fields) (es : Entries) → fold_members (with_property read req) fs ms ≡ Some gs
-        → IfSome req (HasKeys (mapping es)) → HasRequired fs es → HasRequired gs es
-    properties-has req no_members fs gs es e keys h = is-some (λ f. HasRequired f es) fs gs e h
-    properties-has req (member l d ms) fs gs es e keys h = by (read d) e (λ hs f x. properties-has req ms hs gs es f keys x)
-      where
-        by : (o : Option Shape)
-            → option_and_then (λ b. fold_members (with_property read req) b ms) (option_map (λ s. field l (is_required l req) s fs) o) ≡ Some gs
-            → ((hs : Fields) → fold_members (with_property read req) hs ms ≡ Some gs → HasRequired hs es → HasRequired gs es) → HasRequired gs es
-        by None f more = absurd (not-some gs f)
-        by (Some s) f more = more (field l (is_required l req) s fs) f (λ x. required-key-has l req es x keys, h)

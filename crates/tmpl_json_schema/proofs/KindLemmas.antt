@@ -14,18 +14,9 @@ use Rattle.tmpl_shape.specs.computed.Meet.{or_shape}
 use Rattle.tmpl_shape.proofs.MeetLemmas.{or-one, or-other}
 use Rattle.tmpl_json_schema.specs.Document.{IsInstance, HasType, type_of, SomeItem, IsNameOfType, IsOfType, IsConstant, IsOneOf}
 use Rattle.tmpl_json_schema.specs.declared.kinds.Kinds.{Kinds}
+use Rattle.tmpl_json_schema.specs.computed.Fitting.{HasKind}
 use Rattle.tmpl_json_schema.specs.computed.Reading.{fold, either_kinds, both_kinds, no_kind, kind_named, kind_with, type_kinds}
 use Rattle.tmpl_json_schema.specs.computed.Reading.{text_with, const_texts, item_count, is_short, enum_texts, texts_in, constant_kind, constant_with, enum_kinds, or_if, by_kinds, if_kind, keep_kinds}
-
--- a value is of one of the kinds
-abbrev pub HasKind : Kinds → Value → Type 0
-HasKind ks nothing = ⊥
-HasKind ks null = ks.null ≡ true
-HasKind ks (boolean b) = ks.truth ≡ true
-HasKind ks (number n) = ks.number ≡ true
-HasKind ks (string s) = ks.text ≡ true
-HasKind ks (sequence vs) = ks.list ≡ true
-HasKind ks (mapping es) = ks.map ≡ true
 
 or-left : (a b : Bool) → a ≡ true → (a || b) ≡ true
 or-left true b e = refl

@@ -50,7 +50,7 @@ pub(crate) fn text_of_format(format: &str) -> Option<&'static str> {
 }
 
 /// What a `$ref` within a document points to; none where it has escapes of a URI.
-pub(crate) fn referred<'d>(root: &'d Value, reference: &Value) -> Option<&'d Value>
+pub(crate) fn follow_reference<'d>(root: &'d Value, reference: &Value) -> Option<&'d Value>
     ensures { IfSome result (λ schema. refer (view root.now) (view reference.now) ≡ Some (view schema.now)) }
 {
     match reference {
@@ -162,7 +162,7 @@ fn meets(
         "type" => is_of_types(rule, value),
         "const" => is_constant(rule, value),
         "enum" => is_among(rule, value),
-        "$ref" => match referred(root, rule) {
+        "$ref" => match follow_reference(root, rule) {
             Some(schema) => conforms(root, levels, schema, value),
             None => false,
         },

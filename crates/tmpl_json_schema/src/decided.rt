@@ -1,5 +1,5 @@
 //! Whether it is decided if a value conforms to a schema: each keyword that speaks of it is looked at as its draft says.
-use crate::conform::{is_small, referred};
+use crate::conform::{follow_reference, is_small};
 use crate::draft::{Draft, draft_seen};
 use serde_json::{Map, Value};
 
@@ -77,7 +77,7 @@ impl<'d> Decider<'d> {
         value: &Value,
     ) -> bool {
         match keyword {
-            "$ref" => match referred(self.root, rule) {
+            "$ref" => match follow_reference(self.root, rule) {
                 Some(schema) => self.is_decided(levels, schema, value),
                 None => false,
             },

@@ -3,10 +3,12 @@
 ghost use Rattle.std.specs.Prelude.{◌≡◌, []};
 
 use crate::Result;
-use crate::conform::{LEVELS, conforms, is_excluded, is_property, referred, text_of_format};
+use crate::conform::{
+    LEVELS, conforms, follow_reference, is_excluded, is_property, text_of_format,
+};
 use crate::fields::{has_content, least_in, requires_key};
 use crate::pattern::{REPEATS, text_of_pattern};
-use crate::read::{choices_in, items_in};
+use crate::read::{alternatives_in, has_applicators, items_in};
 use serde_json::{Map, Value};
 use std::alloc::{AllocError, Global};
 use std::str::from_utf8;
@@ -117,11 +119,17 @@ impl<'d> Draw<'d> {
         }
     }
 
-    /// A value of a schema that is an object.
+    /// A value of a schema that is an object: of what its `$ref` points to, of its types, of one of its alternatives and of
+    /// each part of `allOf`, as far as these are there; maps are merged.
     #[cycle(draw)]
     fn of_object(&mut self, levels: usize, schema: &Value) -> Drawn {
         if let Some(reference) = schema.get("$ref") {
-            return self.of_reference(levels, reference);
+            let target = self.of_reference(levels, reference)?;
+            if !has_content(schema) && !has_applicators(schema) {
+                return Ok(target);
+            }
+            let own = self.of_keywords(levels, schema)?;
+            return Ok(merge(self.alloc, target, own)?);
         }
         if let Some(constant) = schema.get("const") {
             return Ok(Some(constant.clone()?));
@@ -133,32 +141,37 @@ impl<'d> Draw<'d> {
                 None => Ok(None),
             };
         }
-        match choices_in(schema).and_then(Value::as_array) {
-            Some(choices) => {
-                let index = self.choose(choices.len(), 0)?;
-                match choices.get(index) {
-                    Some(choice) => self.of_schema(levels, choice),
-                    None => Ok(None),
-                }
-            }
-            None => match schema.get("allOf") {
-                Some(Value::Array(parts)) => self.of_parts(levels, schema, parts.as_slice()),
-                _ => self.of_types(levels, schema),
-            },
-        }
+        self.of_keywords(levels, schema)
     }
 
-    /// A value of a schema with `allOf`: a map with the members of one of each part, or one of the first part.
+    /// A value of the types of a schema, of one of its alternatives and of each part of `allOf`.
     #[cycle(draw)]
-    fn of_parts(&mut self, levels: usize, schema: &Value, parts: &[Value]) -> Drawn {
-        let mut whole = if has_content(schema) {
+    fn of_keywords(&mut self, levels: usize, schema: &Value) -> Drawn {
+        let mut whole = if has_content(schema) || !has_applicators(schema) {
             self.of_types(levels, schema)?
         } else {
             None
         };
+        if let Some(Value::Array(choices)) = alternatives_in(schema) {
+            let index = self.choose(choices.len(), 0)?;
+            if let Some(choice) = choices.get(index) {
+                let value = self.of_schema(levels, choice)?;
+                whole = merge(self.alloc, whole, value)?;
+            }
+        }
+        match schema.get("allOf") {
+            Some(Value::Array(parts)) => self.with_parts(levels, whole, parts.as_slice()),
+            _ => Ok(whole),
+        }
+    }
+
+    /// The value, merged with one of each part.
+    #[cycle(draw)]
+    fn with_parts(&mut self, levels: usize, whole: Option<Value>, parts: &[Value]) -> Drawn {
+        let mut whole = whole;
         for part in parts {
             let value = self.of_schema(levels, part)?;
-            whole = merged(self.alloc, whole, value)?;
+            whole = merge(self.alloc, whole, value)?;
         }
         Ok(whole)
     }
@@ -167,7 +180,7 @@ impl<'d> Draw<'d> {
     #[cycle(draw)]
     fn of_reference(&mut self, levels: usize, reference: &Value) -> Drawn {
         let root = self.root;
-        let Some(schema) = referred(root, reference) else {
+        let Some(schema) = follow_reference(root, reference) else {
             return Ok(None);
         };
         if self.references >= MOST_REFERENCES {
@@ -391,7 +404,7 @@ impl<'d> Draw<'d> {
 }
 
 /// Two maps as one, or else the first value that there is.
-fn merged(alloc: Global, first: Option<Value>, second: Option<Value>) -> Drawn {
+fn merge(alloc: Global, first: Option<Value>, second: Option<Value>) -> Drawn {
     match (first, second) {
         (Some(Value::Object(members)), Some(Value::Object(more))) => {
             let mut members = members;

@@ -4,7 +4,7 @@ ghost use Rattle.tmpl_json_schema.specs.declared.fault.SchemaFault.TheVariants a
 
 use crate::Result;
 use std::alloc::{AllocError, AllocFailed, Global};
-use tmpl_schema::Shape;
+use tmpl_shape::Shape;
 
 /// What of a schema is refused.
 #[derive(Drop)]

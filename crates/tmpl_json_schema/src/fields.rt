@@ -11,7 +11,7 @@ use crate::fault::{SchemaFault, at_index, refusal, under};
 use crate::shapes::shape_of_rest;
 use serde_json::Value;
 use std::alloc::Global;
-use tmpl_schema::{Fields, Shape, copy_shape, put_field};
+use tmpl_shape::{Fields, Shape, copy_shape, put_field};
 
 /// Whether the key is one of these.
 fn is_key(key: &[u8], names: &[Value]) -> bool

@@ -2,7 +2,7 @@
 use crate::Result;
 use crate::fault::{Refused, SchemaFault, at_index, refusal, refusal_by, refusal_of, under};
 use crate::known::{is_keyword, near_keyword};
-use crate::reference::{fragment_of, parts_of, pointed, under_pointer};
+use crate::reference::{follow_pointer, fragment_of, parts_of, under_pointer};
 use serde_json::Value;
 use std::alloc::Global;
 use tmpl_values::Bytes;
@@ -139,7 +139,7 @@ impl Search<'_> {
         if !self.is_one_base || !is_pointer(pointer.as_slice()) {
             return self.warn_of("", reference, " is not looked up: any value may be there");
         }
-        match pointed(self.root, pointer.as_slice()) {
+        match follow_pointer(self.root, pointer.as_slice()) {
             Some(_) => Ok(()),
             None => Err(refusal_of(self.alloc, "nothing is at ", reference, " in the document")),
         }
@@ -245,7 +245,7 @@ fn search_part(search: &mut Search<'_>, part: Part, value: &Value) -> Result<(),
 
 /// Looks through what a pointer points to.
 fn search_at(search: &mut Search<'_>, pointer: &[u8]) -> Result<(), SchemaFault> {
-    let Some(schema) = pointed(search.root, pointer) else {
+    let Some(schema) = follow_pointer(search.root, pointer) else {
         return Ok(());
     };
     let first = search.warnings.len();

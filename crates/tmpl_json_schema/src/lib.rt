@@ -2,7 +2,6 @@
 #![tactic(auto)]
 
 mod base;
-mod check;
 mod conform;
 mod decided;
 mod draft;
@@ -23,7 +22,6 @@ mod shapes;
 mod texts;
 mod violation;
 
-pub use check::{CheckFault, check_document};
 pub use conform::{LEVELS, conforms, conforms_to};
 pub use draft::Draft;
 pub use draw::{Draw, Flip};

@@ -125,7 +125,7 @@ impl<'p> PatternText<'p> {
                 let start = self.len;
                 let byte = match first {
                     b'[' => self.class()?,
-                    b'\\' => escaped(self.next()?)?,
+                    b'\\' => unescape(self.next()?)?,
                     b'.' => b'a',
                     _ => first,
                 };
@@ -340,7 +340,7 @@ impl<'p> PatternText<'p> {
                 match sign {
                     b'd' => return Some((b'0', b'9')),
                     b'w' | b's' | b'D' | b'W' | b'S' if is_exact => return None,
-                    _ => escaped(sign)?,
+                    _ => unescape(sign)?,
                 }
             }
             0x80..=0xFF => return None,
@@ -360,7 +360,7 @@ impl<'p> PatternText<'p> {
 }
 
 /// A byte of what stands after a backslash, if that is known.
-fn escaped(sign: u8) -> Option<u8> {
+fn unescape(sign: u8) -> Option<u8> {
     match sign {
         b'd' => Some(b'0'),
         b'w' | b'D' | b'S' => Some(b'a'),

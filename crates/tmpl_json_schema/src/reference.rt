@@ -41,7 +41,7 @@ pub(crate) fn fragment_of(alloc: Global, reference: &str) -> Result<Option<Bytes
 }
 
 /// What a pointer points to in a document.
-pub(crate) fn pointed<'r>(root: &'r Value, pointer: &[u8]) -> Option<&'r Value>
+pub(crate) fn follow_pointer<'r>(root: &'r Value, pointer: &[u8]) -> Option<&'r Value>
     ensures { IfSome result (λ v. points_to pointer.now (view root.now) ≡ Some (view v.now)) }
 {
     match from_utf8(pointer) {
@@ -54,13 +54,13 @@ pub(crate) fn pointed<'r>(root: &'r Value, pointer: &[u8]) -> Option<&'r Value>
 pub(crate) fn parts_of(alloc: Global, pointer: &[u8]) -> Result<Vec<String>> {
     let mut parts = Vec::new(alloc);
     for part in from_utf8(pointer).unwrap_or("").split('/').skip(1) {
-        parts.push(unescaped(alloc, part)?)?;
+        parts.push(unescape(alloc, part)?)?;
     }
     Ok(parts)
 }
 
 /// A part of a pointer without its escapes.
-fn unescaped(alloc: Global, part: &str) -> Result<String> {
+fn unescape(alloc: Global, part: &str) -> Result<String> {
     let mut text = String::new(alloc);
     let mut is_escape = false;
     for letter in part.chars() {

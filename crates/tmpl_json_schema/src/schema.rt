@@ -9,8 +9,8 @@ ghost use Rattle.tmpl_shape.specs.Shape.{Fits};
 ghost use Rattle.tmpl_shape.specs.View.{defs_in, schema_of};
 ghost use Rattle.tmpl_json_schema.specs.Document.{IsOfSchema, document_of, draft_of};
 ghost use Rattle.tmpl_json_schema.specs.Keywords.{AreKnownAt, IsKnown};
-ghost use Rattle.tmpl_json_schema.specs.computed.Reading.{context_of};
-ghost use Rattle.tmpl_json_schema.specs.computed.Defined.{AreLookedUp, IsDefinition, are_defined};
+ghost use Rattle.tmpl_json_schema.specs.computed.Fitting.{IsDefinition, context_of};
+ghost use Rattle.tmpl_json_schema.specs.computed.Defined.{AreLookedUp, are_defined};
 
 use crate::Result;
 use crate::base::is_one_base;
@@ -19,7 +19,7 @@ use crate::fault::{Refused, SchemaFault, refusal, refusal_of};
 use crate::keyword::check_keywords;
 use crate::known::is_known;
 use crate::read::{Reader, shape_by};
-use crate::reference::{MOST_DEFINITIONS, fragment_of, is_listed, pointed, under_pointer};
+use crate::reference::{MOST_DEFINITIONS, follow_pointer, fragment_of, is_listed, under_pointer};
 use serde_json::Value;
 use std::alloc::{AllocError, Global};
 use std::str::from_utf8;
@@ -121,7 +121,7 @@ fn add_name(alloc: Global, root: &Value, reference: &Value, names: &mut Vec<Byte
     if names.len() > MOST_DEFINITIONS || is_listed(names.as_slice(), name.as_slice()) {
         return Ok(());
     }
-    if pointed(root, name.as_slice()).is_some() {
+    if follow_pointer(root, name.as_slice()).is_some() {
         names.push(name)?;
     }
     Ok(())
@@ -129,9 +129,9 @@ fn add_name(alloc: Global, root: &Value, reference: &Value, names: &mut Vec<Byte
 
 /// The definition of what a pointer points to.
 fn definition_of(reader: &Reader<'_>, name: &[u8]) -> Result<Definition, SchemaFault>
-    ensures { IfOk result (λ d. IsDefinition (context_of reader.now) reader.now.inner_lookups d) }
+    ensures { IfOk result (λ d. IsDefinition (context_of reader.now) d) }
 {
-    let Some(value) = pointed(reader.root, name) else {
+    let Some(value) = follow_pointer(reader.root, name) else {
         return Err(refusal(
             reader.alloc,
             "a reference points to nothing in the document",
@@ -148,7 +148,7 @@ fn definition_of(reader: &Reader<'_>, name: &[u8]) -> Result<Definition, SchemaF
 
 /// The definitions of what these pointers point to.
 fn definitions_of(reader: &Reader<'_>) -> Result<Vec<Definition>, SchemaFault>
-    ensures { IfOk result (λ ds. All (IsDefinition (context_of reader.now) reader.now.inner_lookups) ds.items) }
+    ensures { IfOk result (λ ds. All (IsDefinition (context_of reader.now)) ds.items) }
 {
     let mut definitions = Vec::new(reader.alloc);
     for name in reader.names {
@@ -423,7 +423,7 @@ fn are_known_at(root: &Value, definitions: &[Definition]) -> bool
 fn is_known_at(root: &Value, name: &[u8]) -> bool
     ensures { result ≡ true → IfSome (points_to name.now (view root.now)) IsKnown }
 {
-    match pointed(root, name) {
+    match follow_pointer(root, name) {
         Some(schema) => is_known(LEVELS, schema),
         None => false,
     }

@@ -68,7 +68,7 @@ fn if_kind(is_asked: bool, shape: Shape) -> Shape
 
 /// Those of these kinds.
 #[cycle(keep)]
-pub(crate) fn kept(alloc: Global, kinds: Kinds, shape: Shape) -> Result<Shape>
+pub(crate) fn keep_kinds(alloc: Global, kinds: Kinds, shape: Shape) -> Result<Shape>
     ensures { IfOk result (λ s. shape_of s ≡ keep_kinds kinds (shape_of shape)) }
 {
     match shape {
@@ -82,7 +82,7 @@ pub(crate) fn kept(alloc: Global, kinds: Kinds, shape: Shape) -> Result<Shape>
         Shape::List { least, items } => Ok(if_kind(kinds.list, Shape::List { least, items })),
         Shape::Record(fields) => Ok(if_kind(kinds.map, Shape::Record(fields))),
         Shape::Either(one, other) => {
-            kept_either(alloc, kinds, Box::into_inner(one), Box::into_inner(other))
+            keep_either(alloc, kinds, Box::into_inner(one), Box::into_inner(other))
         }
         Shape::Anything => Ok(Shape::Anything),
         Shape::Named(name) => Ok(Shape::Named(name)),
@@ -91,16 +91,20 @@ pub(crate) fn kept(alloc: Global, kinds: Kinds, shape: Shape) -> Result<Shape>
 
 /// Those of these kinds among the values of the one and of the other, of whose alternatives each is looked at in turn.
 #[cycle(keep)]
-fn kept_either(alloc: Global, kinds: Kinds, one: Shape, other: Shape) -> Result<Shape>
+fn keep_either(alloc: Global, kinds: Kinds, one: Shape, other: Shape) -> Result<Shape>
     ensures { IfOk result (λ s. shape_of s ≡ or_shape (keep_kinds kinds (shape_of one)) (keep_kinds kinds (shape_of other))) }
 {
-    let mut back = either(alloc, kept(alloc, kinds, one)?, Shape::Never)?;
+    let mut back = either(alloc, keep_kinds(alloc, kinds, one)?, Shape::Never)?;
     let mut rest = other;
     while let Shape::Either(first, second) = rest {
-        back = either(alloc, kept(alloc, kinds, Box::into_inner(first))?, back)?;
+        back = either(
+            alloc,
+            keep_kinds(alloc, kinds, Box::into_inner(first))?,
+            back,
+        )?;
         rest = Box::into_inner(second);
     }
-    let last = kept(alloc, kinds, rest)?;
+    let last = keep_kinds(alloc, kinds, rest)?;
     or_all(alloc, back, last)
 }
 

@@ -2,7 +2,7 @@
 //! to the keyword. Only what is certain is reported: what a `pattern` or a `format` asks of a string is not looked at.
 
 use crate::Result;
-use crate::conform::{LEVELS, conforms, is_property, is_small, referred};
+use crate::conform::{LEVELS, conforms, follow_reference, is_property, is_small};
 use crate::draft::draft_seen;
 use serde_json::{Map, Value, put};
 use std::alloc::{AllocError, Global};
@@ -102,7 +102,7 @@ impl<'w> Walk<'w> {
     ) -> Result<()> {
         for (keyword, rule) in rules.iter() {
             let name = keyword.as_str();
-            self.way.push(escaped(self.alloc, name)?)?;
+            self.way.push(escape(self.alloc, name)?)?;
             self.visit_rule(levels, schema, name, rule, value)?;
             let _ = self.way.pop();
         }
@@ -159,7 +159,10 @@ impl<'w> Walk<'w> {
         reference: &'w Value,
         value: &Value,
     ) -> Result<()> {
-        let (Some(schema), Some(text)) = (referred(self.root, reference), reference.as_str()) else {
+        let (Some(schema), Some(text)) = (
+            follow_reference(self.root, reference),
+            reference.as_str(),
+        ) else {
             return Ok(());
         };
         let way = way_of(self.alloc, text)?;
@@ -237,7 +240,7 @@ impl<'w> Walk<'w> {
     ) -> Result<()> {
         for (name, member) in members.iter() {
             if let Some(schema) = properties.get(name.as_str()) {
-                self.way.push(escaped(self.alloc, name.as_str())?)?;
+                self.way.push(escape(self.alloc, name.as_str())?)?;
                 self.enter(name.clone()?, false)?;
                 self.visit(levels, schema, member)?;
                 let _ = self.path.pop();
@@ -424,13 +427,13 @@ fn shown(alloc: Global, value: &Value) -> Result<String> {
             if text.len() <= MOST_SHOWN {
                 return Ok(text);
             }
-            shortened(alloc, text.as_str())
+            shorten(alloc, text.as_str())
         }
     }
 }
 
 /// The first characters of a text, and two dots.
-fn shortened(alloc: Global, text: &str) -> Result<String> {
+fn shorten(alloc: Global, text: &str) -> Result<String> {
     let mut short = String::new(alloc);
     for letter in text.chars().take(MOST_SHOWN) {
         short.push(letter)?;
@@ -482,7 +485,7 @@ fn pointer_of(alloc: Global, way: &[String]) -> Result<String> {
 }
 
 /// A name as a part of a JSON Pointer.
-fn escaped(alloc: Global, name: &str) -> Result<String> {
+fn escape(alloc: Global, name: &str) -> Result<String> {
     let mut part = String::new(alloc);
     for letter in name.chars() {
         match letter {

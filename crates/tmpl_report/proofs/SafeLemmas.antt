@@ -1,14 +1,22 @@
--- For `add_schema`: what the check of the document accepts is what is asked for.
-use Rattle.std.proofs.Common.{◌≡◌, ◌∙◌, ℕ, List, Some, ap, map, subst, sym}
+-- For `check_document` and `add_schema`: what the check of the document accepts is what is asked for.
+use Rattle.std.proofs.Common.{◌≡◌, ◌∙◌, ℕ, List, Option, Some, IsSome, ap, map, subst, sym}
 use Rattle.serde_json.specs.Data.{Data}
 use Rattle.std.specs.Borrow.{Bor}
+use Rattle.tmpl_values.specs.Value.{Value}
 use Rattle.tmpl_syntax.specs.Set.{Template}
-use Rattle.tmpl_json_schema.specs.Document.{document_of}
-use Rattle.tmpl_json_schema.specs.Safe.{NeverFailsOver}
-use Rattle.tmpl_report.specs.Safe.{IsSafeOver, asked_name}
+use Rattle.tmpl_meaning.specs.declared.missing_key.MissingKey.{MissingKey}
+use Rattle.tmpl_shape.specs.Shape.{Fits, Schema}
+use Rattle.tmpl_schema.specs.Safe.{NeverFails}
+use Rattle.tmpl_json_schema.specs.Document.{IsOfSchema, document_of, draft_of}
+use Rattle.tmpl_report.specs.Safe.{IsSafeOver, NeverFailsOver, asked_name}
 use Rattle.tmpl_report.specs.declared.source.Question.{Question}
 use Rattle.tmpl_report.specs.declared.source.Source.{Source}
 use Rattle.tmpl_report.specs.declared.source.Sources.{Sources}
+
+-- what conforms to a document fits the schema that is read of it
+pub over-document : (root : Data) (mode : Option MissingKey) (stops : List (List ℕ)) (set : List Template) (name : List ℕ) (schema : Schema)
+    → IsSome (draft_of root) → ((v : Value) → IsOfSchema root v → Fits schema v) → NeverFails schema mode stops set name → NeverFailsOver root mode stops set name
+over-document root mode stops set name schema draft fits h = (h.0, h.1, draft, λ rules v covers conforms. h.2 rules (Some v) covers (fits v conforms))
 
 pub safe-over : (question : Question) (sources : Sources) (set : List Template) (schema : Source) (first : Bor (List ℕ)) (document : Data)
     (bytes name : List ℕ) (stops : List (List ℕ)) → sources.schema ≡ Some schema → question.first ≡ Some first

@@ -3,7 +3,7 @@ use Rattle.std.specs.Prelude.{Option}
 use Rattle.tmpl_meaning.specs.declared.missing_key.MissingKey.{MissingKey}
 use Rattle.tmpl_schema.specs.Safe.{Covers}
 use Rattle.tmpl_schema.specs.declared.failure.Doubt.{Doubt}
-use Rattle.tmpl_json_schema.specs.Safe.{NeverFailsOver}
+use Rattle.tmpl_report.specs.Safe.{NeverFailsOver}
 use Rattle.tmpl_report.specs.declared.samples.failing.Failure.{Failure}
 use Rattle.tmpl_report.specs.Failing.{Asked, IsRight}
 

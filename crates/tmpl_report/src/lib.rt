@@ -1,6 +1,7 @@
 //! The findings in template files, data and a schema: with counterexamples and reasons, and how they are printed.
 #![tactic(auto)]
 
+mod check;
 mod commands;
 mod detail;
 mod entry;
@@ -20,6 +21,7 @@ mod source;
 mod text;
 mod values;
 
+pub use check::{CheckFault, check_document};
 pub use entry::Level;
 pub use findings::{Findings, Format, findings_of};
 pub use infer::{Inferred, infer_from};

@@ -7,6 +7,7 @@ ghost use Rattle.tmpl_report.specs.Safe.{IsSafeOver};
 ghost use Rattle.tmpl_report.specs.computed.Entries.{HasMore};
 
 use crate::Result;
+use crate::check::{CheckFault, check_document};
 use crate::entry::Entry;
 use crate::findings::Findings;
 use crate::reasons::{Reason, Why, below, position_of, reasons_of};
@@ -18,10 +19,7 @@ use std::alloc::{AllocError, Global};
 use std::str::from_utf8;
 use tmpl_funcs::Func;
 use tmpl_hints::Sentence;
-use tmpl_json_schema::{
-    CheckFault, Refused, SchemaFault, check_document, part_without_values, read_document,
-    warnings_of,
-};
+use tmpl_json_schema::{Refused, SchemaFault, part_without_values, read_document, warnings_of};
 use tmpl_schema::{Cause, Doubt, Refusal};
 use tmpl_syntax::{Place, Set};
 use tmpl_values::Bytes;

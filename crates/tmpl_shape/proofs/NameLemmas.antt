@@ -19,7 +19,7 @@ entries-on P Q f (entry k v es) h = (f k v h.0, entries-on P Q f es h.1)
 
 module _ (N M : Names) (below : Below N M) where
   mutual
-    shape-on : (s : Shape) (v : Value) → HasShape N s v → HasShape M s v
+    pub shape-on : (s : Shape) (v : Value) → HasShape N s v → HasShape M s v
     shape-on anything v h = tt
     shape-on nothings nothing h = tt
     shape-on nothings _ h = absurd h

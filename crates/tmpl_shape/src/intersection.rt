@@ -18,11 +18,14 @@ use std::alloc::{AllocError, Global};
 /// How many pairs of names are compared by the work of a step.
 const PAIRS: u64 = 16;
 
+/// The most alternatives that two shapes are met to.
+const MOST_ALTERNATIVES: usize = 1_500;
+
 /// Why two shapes are not met.
 #[derive(Clone, Copy)]
 pub enum Unmet {
     OutOfMemory,
-    /// No work is left.
+    /// No work is left, or there would be too many alternatives.
     TooMuch,
 }
 
@@ -62,6 +65,22 @@ pub fn or_all(alloc: Global, back: Shape, last: Shape) -> Result<Shape, AllocErr
             _ => return Ok(all),
         }
     }
+}
+
+/// How many alternatives a shape has that have none themselves.
+pub fn count_alternatives(shape: &Shape) -> usize {
+    let mut count: usize = 1;
+    let mut rest = shape;
+    while let Shape::Either(one, other) = rest {
+        count = count.saturating_add(count_alternatives(one));
+        rest = other;
+    }
+    count
+}
+
+/// Whether two shapes have too many alternatives for each of the one to be met with each of the other.
+fn is_crowd(one: &Shape, other: &Shape) -> bool {
+    count_alternatives(one).saturating_mul(count_alternatives(other)) > MOST_ALTERNATIVES
 }
 
 /// Whether nothing is known of a value, or it stands in a definition.
@@ -162,12 +181,12 @@ fn with_unlisted(
 ///
 /// # Errors
 ///
-/// Where memory runs out, or no work is left.
+/// Where memory runs out, no work is left, or there would be more than 1,500 alternatives.
 #[cycle(meet)]
 pub fn meet(base: &Base<'_>, steps: usize, one: &Shape, other: &Shape) -> Result<Shape, Unmet>
     ensures { IfOk result (λ s. shape_of s ≡ meet steps (shape_of one.now) (shape_of other.now)) }
 {
-    if base.effort.is_spent() {
+    if base.effort.is_spent() || is_crowd(one, other) {
         return Err(Unmet::TooMuch);
     }
     base.effort.spend(1);

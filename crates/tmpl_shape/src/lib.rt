@@ -22,7 +22,7 @@ pub use effort::Effort;
 pub use field::{Key, chain_shape, index_shape};
 pub use format::printf_shape;
 pub use inclusion::{has_name, within};
-pub use intersection::{Unmet, meet, or_all, or_shape};
+pub use intersection::{Unmet, count_alternatives, meet, or_all, or_shape};
 pub use kind::{Kind, Kinds, has_kind, kinds_of};
 pub use part::part_shape;
 pub use shape::{

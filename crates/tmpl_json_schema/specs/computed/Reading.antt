@@ -1,29 +1,23 @@
--- The shape that is computed for what stands in a document.
-use Rattle.std.specs.Prelude.{ℕ, zero, suc, nat_le, Bool, true, false, not, ◌&&◌, ◌||◌, ◌==◌, List, [], ◌∷◌, Option, Some, None}
+-- What is computed of a schema but for what stands inside it: its kinds, strings and fields.
+use Rattle.std.specs.Prelude.{ℕ, suc, nat_le, Bool, true, false, not, ◌&&◌, ◌||◌, List, [], ◌∷◌, Option, Some, None}
 use Rattle.std.specs.Prelude.{if◌then◌else◌, codes, is_some, unwrap_or}
 use Rattle.std.specs.Option.{option_map, option_map_or, option_and_then}
 use Rattle.std.specs.Str.{bytes_eq}
 use Rattle.serde_json.specs.Data as json
-use Rattle.serde_json.specs.Data.{Data, Items, no_items, Members, no_members, member}
-use Rattle.serde_json.specs.Find.{as_number, as_u64, get, pointer}
-use Rattle.serde_json.specs.View.{view}
+use Rattle.serde_json.specs.Data.{Data, Items, no_items}
+use Rattle.serde_json.specs.Find.{as_number, as_u64, get}
 use Rattle.tmpl_shape.specs.Shape.{Shape, never, nothings, nulls, truths, numbers, texts, exactly, anything, list_of, record_of}
-use Rattle.tmpl_shape.specs.Shape.{either, named, Fields, no_field, others, field}
-use Rattle.tmpl_shape.specs.computed.Meet.{meet, or_shape}
+use Rattle.tmpl_shape.specs.Shape.{either, Fields, no_field, others, field}
+use Rattle.tmpl_shape.specs.computed.Meet.{or_shape}
 use Rattle.tmpl_shape.specs.computed.Shapes.{is_never}
-use Rattle.tmpl_json_schema.specs.Document.{fragment_of, has_const, is_since_2019, items_in}
+use Rattle.tmpl_json_schema.specs.Document.{fragment_of, has_const}
 use Rattle.tmpl_json_schema.specs.declared.draft.Draft.{Draft}
 use Rattle.tmpl_json_schema.specs.declared.kinds.Kinds.{Kinds}
-use Rattle.tmpl_json_schema.specs.declared.read.Reader as held_reader
 
 -- what comes of items one after the other, unless one gives nothing
 abbrev pub fold : {A : Type 0} → (A → Data → Option A) → A → Items → Option A
 fold f a no_items = Some a
 fold f a (json.item d ds) = option_and_then (λ b. fold f b ds) (f a d)
-
-abbrev pub fold_members : {A : Type 0} → (A → List ℕ → Data → Option A) → A → Members → Option A
-fold_members f a no_members = Some a
-fold_members f a (member k d ms) = option_and_then (λ b. fold_members f b ms) (f a k d)
 
 -- ---- kinds
 
@@ -230,9 +224,12 @@ abbrev pub or_else : Option Data → Option Data → Option Data
 or_else None o = o
 or_else (Some d) o = Some d
 
--- the alternatives, where they are not beside keywords of fields and items
+-- the alternatives, and those that are not beside keywords of fields and items
+abbrev pub alternatives_in : Data → Option Data
+alternatives_in d = or_else (get (codes "anyOf") d) (get (codes "oneOf") d)
+
 abbrev pub choices_in : Data → Option Data
-choices_in d = if has_content d then None else or_else (get (codes "anyOf") d) (get (codes "oneOf") d)
+choices_in d = if has_content d then None else alternatives_in d
 
 abbrev pub is_listed : List (List ℕ) → List ℕ → Bool
 is_listed [] x = false
@@ -246,154 +243,9 @@ abbrev pub listed_in : List (List ℕ) → Data → Option (List ℕ)
 listed_in names (json.string r) = option_and_then (if_listed names) (fragment_of r)
 listed_in names d = None
 
--- there are keywords of fields and items, or alternatives
-abbrev pub has_start : Data → Bool
-has_start d = has_content d || is_some (choices_in d)
-
--- the first part of `allOf`, and whether there is no other
-abbrev pub first_of : Data → Option Data
-first_of (json.array (json.item d ds)) = Some d
-first_of d = None
-
-abbrev pub is_single : Items → Bool
-is_single ds = nat_le (item_count ds) 1
-
-abbrev pub has_one : Data → Bool
-has_one (json.array ds) = is_single ds
-has_one d = true
-
--- there are keywords of fields and items, alternatives, or parts
-abbrev pub tells_more : Data → Bool
-tells_more d = has_start d || is_some (get (codes "allOf") d)
-
 abbrev pub required_in : Data → Fields → Option Fields
 required_in d rest = option_map_or (required_fields (get (codes "properties") d) rest) (get (codes "required") d) (Some rest)
 
 -- a `const` that the draft does not have
 abbrev pub is_unread : Draft → Data → Bool
 is_unread draft d = is_some (get (codes "const") d) && not (has_const draft)
-
-module _ (read : Data → Option Shape) where
-  abbrev pub choice_with : Shape → Data → Option Shape
-  choice_with s d = option_map (λ t. or_shape t s) (read d)
-
-  abbrev pub choice_shape : Data → Option Shape
-  choice_shape (json.array ds) = fold choice_with never ds
-  choice_shape d = None
-
-  abbrev pub with_property : Option Data → Fields → List ℕ → Data → Option Fields
-  with_property req fs k d = option_map (λ s. field k (is_required k req) s fs) (read d)
-
-  abbrev pub property_fields : Option Data → Fields → Data → Option Fields
-  property_fields req fs (json.object ms) = fold_members (with_property req) fs ms
-  property_fields req fs d = None
-
-  abbrev pub properties_in : Data → Fields → Option Fields
-  properties_in d fs = option_map_or (property_fields (get (codes "required") d) fs) (get (codes "properties") d) (Some fs)
-
-  -- the shape of fields whose names a pattern may match too
-  abbrev pub with_pattern : Shape → List ℕ → Data → Option Shape
-  with_pattern s k d = option_map (λ t. or_shape t s) (read d)
-
-  abbrev pub with_patterns : Option Data → Shape → Option Shape
-  with_patterns (Some (json.object ms)) s = if is_anything s then Some s else fold_members with_pattern s ms
-  with_patterns o s = Some s
-
-  -- .. of fields that are not named
-  abbrev pub additional_in : Data → Option Data → Option Shape
-  additional_in d None = Some anything
-  additional_in d (Some a) = option_and_then (with_patterns (get (codes "patternProperties") d)) (read a)
-
-  abbrev pub fields_in : Data → Option Fields
-  fields_in d =
-      option_and_then (λ s. option_and_then (properties_in d) (required_in d (rest_of s))) (additional_in d (get (codes "additionalProperties") d))
-
-  abbrev pub items_shape : Data → Option Shape
-  items_shape d = option_map_or read (items_in d) (Some anything)
-
-  abbrev pub content_shape : Data → Kinds → Option Shape
-  content_shape d ks =
-      if is_every_kind ks && not (has_content d) then Some anything
-      else option_and_then (λ i. option_map (by_kinds ks (texts_in d) (least_in d) i) (fields_in d)) (items_shape d)
-
-  -- what the parts of `allOf` are met with
-  abbrev pub start_shape : Data → Kinds → Option Shape
-  start_shape d ks = option_map_or (λ c. option_map (keep_kinds ks) (choice_shape c)) (choices_in d) (content_shape d ks)
-
--- what a document is read by: its draft, the pointers that a `$ref` may have, itself, and how many levels are read
-pub record Context : Type 0 where
-  pub draft : Draft
-  pub names : List (List ℕ)
-  pub root : Data
-  pub levels : ℕ
-
--- where as many references are looked up, one in the other
-module _ (c : Context) (k : ℕ) (read part : Data → Option Shape) (look : List ℕ → Option Shape) where
-  -- the shape met with that of each part of `allOf`
-  abbrev pub part_with : Shape → Data → Option Shape
-  part_with s d = option_map (meet c.levels s) (part d)
-
-  abbrev pub parts_shape : Shape → Data → Option Shape
-  parts_shape s (json.array ds) = fold part_with s ds
-  parts_shape s d = Some s
-
-  -- where nothing stands beside it: that of the one part, or of all; where none is looked up that of the first
-  abbrev pub joint_shape : Data → Option Shape
-  joint_shape d = if k == 0 || has_one d then option_map_or read (first_of d) (Some anything) else parts_shape anything d
-
-  abbrev pub with_parts : Data → Kinds → Data → Option Shape
-  with_parts d ks l = if has_start d then option_and_then (λ s. parts_shape s l) (start_shape read d ks) else option_map (keep_kinds ks) (joint_shape l)
-
-  abbrev pub plain_shape : Data → Kinds → Option Shape
-  plain_shape d ks = option_map_or (with_parts d ks) (get (codes "allOf") d) (start_shape read d ks)
-
-  abbrev pub kinds_shape : Data → Option Shape
-  kinds_shape d = option_and_then (plain_shape d) (kinds_in d)
-
-  -- .. beside a `$ref` that is not looked up, if there is one
-  abbrev pub beside_shape : Data → Option Data → Option Shape
-  beside_shape d o = if is_some o && not (is_since_2019 c.draft) then Some anything else kinds_shape d
-
-  -- what a `$ref` of this pointer stands for, and what stands beside it; of a part it is looked up
-  abbrev pub referred : Bool → Data → List ℕ → Option Shape
-  referred is_part d p =
-      if is_since_2019 c.draft && tells_more d then option_and_then (λ s. option_map (meet c.levels s) (kinds_shape d)) (look p)
-      else if is_part then look p else Some (named p)
-
-  abbrev pub object_shape : Bool → Data → Option Shape
-  object_shape is_part d =
-      if is_unread c.draft d then None
-      else option_map_or (referred is_part d) (option_and_then (listed_in c.names) (get (codes "$ref") d)) (beside_shape d (get (codes "$ref") d))
-
-  -- the shape of a schema
-  abbrev pub shape_read : Bool → Data → Option Shape
-  shape_read is_part (json.boolean b) = Some (if b then anything else never)
-  shape_read is_part (json.object ms) = object_shape is_part (json.object ms)
-  shape_read is_part d = None
-
-module _ (c : Context) where
-  -- what stands at a pointer, where as many are looked up one in the other
-  abbrev pub looked_up : (ℕ → Data → Option Shape) → ℕ → List ℕ → Option Shape
-  looked_up read zero p = Some (named p)
-  looked_up read (suc k) p = option_and_then (read k) (pointer p c.root)
-
-  -- the shape of a schema, or of a part of one; what stands inside it is read as many levels deep, with as many look-ups,
-  -- but none inside what is looked up
-  abbrev pub shape_by : ℕ → ℕ → ℕ → Bool → Data → Option Shape
-  shape_by zero k i is_part d = None
-  shape_by (suc n) k i is_part d =
-      shape_read c k (shape_by n i i false) (shape_by n k i true) (looked_up (λ j. shape_by n j 0 true) k) is_part d
-
--- ---- what a reader reads, where as many levels are left
-
-abbrev pub context_of : held_reader.Reader → Context
-context_of r = record { draft = r.draft; names = r.names.now; root = view r.root.now; levels = r.levels }
-
-abbrev pub read_by : held_reader.Reader → ℕ → Data → Option Shape
-read_by r n = shape_by (context_of r) n r.inner_lookups r.inner_lookups false
-
-abbrev pub part_by : held_reader.Reader → ℕ → Data → Option Shape
-part_by r n = shape_by (context_of r) n r.lookups r.inner_lookups true
-
-abbrev pub look_by : held_reader.Reader → ℕ → List ℕ → Option Shape
-look_by r n = looked_up (context_of r) (λ j. shape_by (context_of r) n j 0 true) r.lookups

@@ -7,16 +7,16 @@ use Rattle.tmpl_shape.proofs.ViewLemmas.{amount}
 use Rattle.tmpl_json_schema.specs.computed.Reading.{keep_kinds}
 use Rattle.tmpl_json_schema.proofs.shapes.+keep.Given as goal
 
-abbrev pub decreases-kept : goal.decreases-kept
-decreases-kept l = 2 * amount (shape_of l.shape)
+abbrev pub decreases-keep_kinds : goal.decreases-keep_kinds
+decreases-keep_kinds l = 2 * amount (shape_of l.shape)
 
-abbrev pub decreases-kept_either : goal.decreases-kept_either
-decreases-kept_either l = 2 * (amount (shape_of l.one) + amount (shape_of l.other)) + 1
+abbrev pub decreases-keep_either : goal.decreases-keep_either
+decreases-keep_either l = 2 * (amount (shape_of l.one) + amount (shape_of l.other)) + 1
 
-abbrev pub invariant-kept_either-loop-rest : goal.invariant-kept_either-loop-rest
-invariant-kept_either-loop-rest l =
+abbrev pub invariant-keep_either-loop-rest : goal.invariant-keep_either-loop-rest
+invariant-keep_either-loop-rest l =
     (gathered or_shape (shape_of l.back) (keep_kinds l.kinds (shape_of l.rest)) ≡ or_shape (keep_kinds l.kinds (shape_of l.fn.one)) (keep_kinds l.kinds (shape_of l.fn.other)))
     × (amount (shape_of l.rest) ≤ amount (shape_of l.fn.other))
 
-abbrev pub decreases-kept_either-loop-rest : goal.decreases-kept_either-loop-rest
-decreases-kept_either-loop-rest l = spine (shape_of l.rest)
+abbrev pub decreases-keep_either-loop-rest : goal.decreases-keep_either-loop-rest
+decreases-keep_either-loop-rest l = spine (shape_of l.rest)

@@ -7,8 +7,11 @@ decreases-of_schema l = 20 * l.levels + 0
 abbrev pub decreases-of_object : goal.decreases-of_object
 decreases-of_object l = 20 * l.levels + 16
 
-abbrev pub decreases-of_parts : goal.decreases-of_parts
-decreases-of_parts l = 20 * l.levels + 15
+abbrev pub decreases-of_keywords : goal.decreases-of_keywords
+decreases-of_keywords l = 20 * l.levels + 15
+
+abbrev pub decreases-with_parts : goal.decreases-with_parts
+decreases-with_parts l = 20 * l.levels + 3
 
 abbrev pub decreases-of_reference : goal.decreases-of_reference
 decreases-of_reference l = 20 * l.levels + 2

@@ -2,7 +2,7 @@ use Rattle.std.proofs.Common.{◌≤◌}
 use Rattle.tmpl_shape.specs.View.{shape_of}
 use Rattle.tmpl_shape.proofs.StepLemmas.{spine}
 use Rattle.tmpl_shape.proofs.ViewLemmas.{amount}
-use Rattle.tmpl_json_schema.proofs.read.+count_alternatives.Given as goal
+use Rattle.tmpl_shape.proofs.intersection.+count_alternatives.Given as goal
 
 abbrev pub decreases-count_alternatives : goal.decreases-count_alternatives
 decreases-count_alternatives l = amount (shape_of l.shape.now)

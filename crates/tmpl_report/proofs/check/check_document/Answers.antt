@@ -1,8 +1,8 @@
 use Rattle.serde_json.specs.View.{view}
 use Rattle.tmpl_syntax.specs.View.{set_view}
 use Rattle.tmpl_shape.specs.View.{schema_of}
-use Rattle.tmpl_json_schema.proofs.SafeLemmas.{over-document}
-use Rattle.tmpl_json_schema.proofs.check.check_document.Goals as goal
+use Rattle.tmpl_report.proofs.SafeLemmas.{over-document}
+use Rattle.tmpl_report.proofs.check.check_document.Goals as goal
 
 pub returns-in-Ok-check_schema : goal.returns-in-Ok-check_schema
 returns-in-Ok-check_schema c =

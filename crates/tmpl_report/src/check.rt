@@ -2,12 +2,11 @@
 ghost use Rattle.std.specs.Prelude.{OnOk};
 ghost use Rattle.serde_json.specs.View.{view};
 ghost use Rattle.tmpl_syntax.specs.View.{set_view};
-ghost use Rattle.tmpl_json_schema.specs.Safe.{NeverFailsOver};
+ghost use Rattle.tmpl_report.specs.Safe.{NeverFailsOver};
 
-use crate::fault::SchemaFault;
-use crate::schema::read_schema;
 use serde_json::Value;
 use std::alloc::Global;
+use tmpl_json_schema::{SchemaFault, read_schema};
 use tmpl_meaning::MissingKey;
 use tmpl_schema::{Refusal, check_schema};
 use tmpl_syntax::Set;
