@@ -217,9 +217,19 @@ def drawn_document(draw):
     """A whole document, whose definitions do not stand for themselves."""
     names = {name: {"type": "object", "required": ["a"], "properties": {"a": drawn_schema(draw, 0), "b": {"type": "array", "items": drawn_schema(draw, 1)}}}
              for name in ("n", "m/o", "p%q")}
-    head = draw.choice(DRAFTS)
-    schema = {"$schema": head, "title": "drawn", **drawn_object(draw, 3), "$defs": names}
+    head, own = draw.choice(DRAFTS), drawn_object(draw, 3)
+    while stands_for_itself(own):
+        own = drawn_object(draw, 3)
+    schema = {"$schema": head, "title": "drawn", **own, "$defs": names}
     return in_draft_04(schema) if head == DRAFT_04 else in_2020(schema) if head == HEAD else schema
+
+
+def stands_for_itself(schema):
+    """Whether the schema of a whole document asks of a value that it conforms to the document: no rule says what that means."""
+    if not isinstance(schema, dict):
+        return False
+    parts = [one for keyword in ("anyOf", "oneOf", "allOf") for one in schema.get(keyword, [])]
+    return schema.get("$ref") == "#" or any(map(stands_for_itself, parts))
 
 
 def in_2020(it):

@@ -17,7 +17,8 @@ use Rattle.tmpl_schema.specs.computed.View.{callee_of, entries_of, table_of}
 use Rattle.tmpl_schema.proofs.ModeLemmas.{in-asked, safe-keeps, checked-keeps}
 use Rattle.tmpl_schema.proofs.SafeLemmas.{runs-safely}
 use Rattle.tmpl_shape.proofs.NameLemmas.{meant}
-use Rattle.tmpl_shape.proofs.ShapeLemmas.{null_gone-has, same_name}
+use Rattle.tmpl_shape.proofs.ShapeLemmas.{same_name}
+use Rattle.tmpl_schema.proofs.NullLemmas.{null_gone-has}
 
 module _ (base : Base) (m : MissingKey) (stops : List (List ℕ)) (set : List Template) (table : Table) where
   each-found : (es : List held.Entry) → EachCallee base m stops set table (entries_of es)

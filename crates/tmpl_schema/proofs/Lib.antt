@@ -1,3 +1,8 @@
+pub mod NullLemmas
+pub mod FieldLemmas
+pub mod CallLemmas
+pub mod FormatLemmas
+pub mod PartLemmas
 pub mod OriginLemmas
 pub mod VariableLemmas
 pub mod LoopLemmas

@@ -25,7 +25,7 @@ use Rattle.tmpl_loops.proofs.TestLemmas.{slicing-is}
 use Rattle.tmpl_shape.specs.Shape.{Shape, Names as Stands}
 use Rattle.tmpl_shape.specs.computed.Means.{Means}
 use Rattle.tmpl_shape.specs.computed.Shapes.{Base}
-use Rattle.tmpl_shape.proofs.FieldLemmas.{Gives}
+use Rattle.tmpl_schema.proofs.FieldLemmas.{Gives}
 use Rattle.tmpl_schema.specs.computed.Check.{State, pipeline_shape}
 use Rattle.tmpl_schema.specs.computed.Loops.{Acts, AreLoop, Chooses, EndsWell, HasValue, IsFound, byte_state}
 use Rattle.tmpl_schema.proofs.VariableLemmas.{place, pipeline-gives}

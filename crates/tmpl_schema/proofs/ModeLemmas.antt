@@ -26,7 +26,7 @@ use Rattle.tmpl_shape.specs.computed.Shapes.{of_field, entry_shape, field_shape_
 use Rattle.tmpl_shape.specs.computed.Calls.{shape_by_function}
 use Rattle.tmpl_shape.specs.computed.Formats.{printf_shape}
 use Rattle.tmpl_schema.specs.Safe.{Covers}
-use Rattle.tmpl_schema.specs.computed.Check.{Known, State, Callee, handed, absent, Table, Checked, variable_shape}
+use Rattle.tmpl_schema.specs.computed.Check.{absent_field, Known, State, Callee, handed, absent, Table, Checked, variable_shape}
 use Rattle.tmpl_schema.specs.computed.Check.{alone, key_of, text_of, deciding_shape, passing_shape, passed}
 use Rattle.tmpl_schema.specs.computed.Check.{entry_by, entry_for}
 use Rattle.tmpl_schema.specs.computed.Check.{operand_shape, operand_shapes, junction_shape, entry_along, indexed_shape}
@@ -89,16 +89,16 @@ by_function-keeps _ a b c d e g h i j k l o all every some index part printed = 
 module _ (base : Base) (m : MissingKey) where
   -- ---- fields
 
-  of_field-keeps : (c : Bool) (s : Shape) → Keeps (of_field base Error c s) (of_field base m c s)
+  of_field-keeps : (c : Bool) (s : Shape) → Keeps (of_field base (absent_field Error) c s) (of_field base (absent_field m) c s)
   of_field-keeps true s = refl
   of_field-keeps false s = tt
 
-  entry-keeps : (n : List ℕ) (fs : Fields) → Keeps (entry_shape base Error n fs) (entry_shape base m n fs)
+  entry-keeps : (n : List ℕ) (fs : Fields) → Keeps (entry_shape base (absent_field Error) n fs) (entry_shape base (absent_field m) n fs)
   entry-keeps n no_field = tt
   entry-keeps n (others s) = tt
   entry-keeps n (field name c s fs) = if-keeps (bytes_eq n name) _ _ _ _ (of_field-keeps c s) (entry-keeps n fs)
 
-  field-keeps : (i : ℕ) (n : List ℕ) (s : Shape) → Keeps (field_shape_by base i Error n s) (field_shape_by base i m n s)
+  field-keeps : (i : ℕ) (n : List ℕ) (s : Shape) → Keeps (field_shape_by base i (absent_field Error) n s) (field_shape_by base i (absent_field m) n s)
   field-keeps zero n s = tt
   field-keeps (suc i) n never = refl
   field-keeps (suc i) n (record_of fs) = entry-keeps n fs
@@ -106,7 +106,7 @@ module _ (base : Base) (m : MissingKey) where
   field-keeps (suc i) n (named x) = same-keeps _ _ (base.defs x) (field-keeps i n)
   field-keeps (suc i) n s = tt
 
-  chain-keeps : (ns : List (List ℕ)) (s : Shape) → Keeps (chain_shape base Error ns s) (chain_shape base m ns s)
+  chain-keeps : (ns : List (List ℕ)) (s : Shape) → Keeps (chain_shape base (absent_field Error) ns s) (chain_shape base (absent_field m) ns s)
   chain-keeps [] s = refl
   chain-keeps (n ∷ ns) s = then-keeps _ _ _ _ (chain-keeps ns) (field-keeps base.limit n s)
 

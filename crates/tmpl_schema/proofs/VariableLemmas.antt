@@ -41,13 +41,14 @@ use Rattle.tmpl_schema.specs.computed.Check as check
 use Rattle.tmpl_schema.specs.computed.Check.{Origin, narrow_from, narrow_root, origin_within, pipeline_origin, pipeline_place, place_of, place_origin, refine_all, refine_along, refine_from, rest_of, root_origin, variable_origin}
 use Rattle.tmpl_schema.proofs.OriginLemmas.{HasOrigin, IsAt, at-chain, at-gone, at-joined, at-rest, at-root, origin_within-has, origins-left, origins-right, rest_of-is}
 use Rattle.tmpl_schema.specs.computed.Check.{Known, State, variable_shape, assigned_shape, bound_shapes, refine_variable, all_within, is_split, join_all, join_origins, join_parts, join_to, last_of, if_within}
-use Rattle.tmpl_schema.specs.computed.Check.{after_both, entry_along, entry_by, operand_shape, indexed_shape, printed_shape, command_shape, pipeline_shape, narrow}
+use Rattle.tmpl_schema.specs.computed.Check.{absent_field, after_both, entry_along, entry_by, operand_shape, indexed_shape, printed_shape, command_shape, pipeline_shape, narrow}
 use Rattle.tmpl_shape.proofs.KindLemmas.{has_kind-has}
-use Rattle.tmpl_shape.proofs.ShapeLemmas.{bytes-turned, same_name, within-has, join-left, join-right, null_gone-has}
-use Rattle.tmpl_shape.proofs.FormatLemmas.{printf-gives}
-use Rattle.tmpl_shape.proofs.FieldLemmas.{Ends, Gives, Passes, Shows, any-has, at-entry, both-left, both-right, entry-gives, chain-gives, fill-has, full-thing, only-there, refine-has}
-use Rattle.tmpl_shape.proofs.PartLemmas.{item-at, part-gives, part_told}
-use Rattle.tmpl_shape.proofs.CallLemmas.{HaveShapes, call-gives}
+use Rattle.tmpl_shape.proofs.ShapeLemmas.{bytes-turned, same_name, within-has, join-left, join-right}
+use Rattle.tmpl_schema.proofs.NullLemmas.{null_gone-has}
+use Rattle.tmpl_schema.proofs.FormatLemmas.{printf-gives}
+use Rattle.tmpl_schema.proofs.FieldLemmas.{Ends, Gives, Passes, Shows, any-has, at-entry, both-left, both-right, entry-gives, chain-gives, fill-has, full-thing, only-there, refine-has}
+use Rattle.tmpl_schema.proofs.PartLemmas.{item-at, part-gives, part_told}
+use Rattle.tmpl_schema.proofs.CallLemmas.{HaveShapes, call-gives}
 use Rattle.tmpl_funcs.specs.Func.{takes}
 use Rattle.tmpl_funcs.specs.declared.func.Func.{Func}
 use Rattle.tmpl_funcs.specs.declared.func.Func.TheVariants as func
@@ -505,7 +506,7 @@ module _ (base : Base) (N : Names) (means : Means base.defs N) (top : Value) whe
   -- of a map
   keyed-gives : (key : Key) (n : List ℕ) (fs : Fields) (es : Entries) → HasShape N (record_of fs) (mapping es)
       → (Gives base N means) (keyed_shape base key fs) (told (element_at (mapping es) (key_value key n)))
-  keyed-gives (of_name name) n fs es h = told-entry (entry_shape base mode.Zero name fs) name (entry_at name es) ((entry-gives base N means) mode.Zero name fs es h.1 h.2)
+  keyed-gives (of_name name) n fs es h = told-entry (entry_shape base (absent_field mode.Zero) name fs) name (entry_at name es) ((entry-gives base N means) mode.Zero name fs es h.1 h.2)
   keyed-gives (of_place i) n fs es h = tt
   keyed-gives of_text n fs es h = by (entry_at n es) refl
     where
@@ -1392,9 +1393,9 @@ module _ (base : Base) (N : Names) (means : Means base.defs N) (top : Value) whe
       operand-gives dot k fits = fits.0
       operand-gives (fields names) k fits = (chain-gives base N means) m names k.dot d fits.0
       operand-gives (variable name names) k fits =
-          found-gives (chain_shape base m names) (chain m names) ((chain-gives base N means) m names) (variable_shape name k.env) (lookup name env) (lookup-gives name k.env env fits.1)
+          found-gives (chain_shape base (absent_field m) names) (chain m names) ((chain-gives base N means) m names) (variable_shape name k.env) (lookup name env) (lookup-gives name k.env env fits.1)
       operand-gives (group p names) k fits =
-          go-gives (chain_shape base m names) (λ v. as_given (chain m names v)) (commands_shape base m k p None) (commands_value (place m d env) p None).result
+          go-gives (chain_shape base (absent_field m) names) (λ v. as_given (chain m names v)) (commands_shape base m k p None) (commands_value (place m d env) p None).result
           (commands_value (place m d env) p None).made_text (commands-give p k None None fits tt) (λ s v e. (chain-gives base N means) m names s v)
       operand-gives (function f) k fits = by_count-gives f (takes f 0) (call_shape base f []) (apply_function f []) ((call-gives base N means) f [] [] tt)
       operand-gives _ k fits = tt

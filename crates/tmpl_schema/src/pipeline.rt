@@ -10,7 +10,7 @@ ghost use Rattle.tmpl_funcs.specs.Func.{takes};
 ghost use Rattle.tmpl_shape.specs.View.{shape_of};
 ghost use Rattle.tmpl_shape.specs.computed.Calls.{kinds_shape};
 ghost use Rattle.tmpl_shape.specs.computed.View.{base_of, shape_seen};
-ghost use Rattle.tmpl_schema.specs.computed.Check.{alone, command_shape, commands_shape, entry_along, entry_by, indexed_shape, junction_shape, operand_shape, pipeline_shape, printed_shape, sliced_shape};
+ghost use Rattle.tmpl_schema.specs.computed.Check.{absent_field, alone, command_shape, commands_shape, entry_along, entry_by, indexed_shape, junction_shape, operand_shape, pipeline_shape, printed_shape, sliced_shape};
 ghost use Rattle.tmpl_schema.specs.computed.View.{argument_kinds, called_shape, state_of};
 
 use crate::facts::{Head, bounds_of, head_of, key_of, text_of};
@@ -20,9 +20,21 @@ use tmpl_funcs::Func;
 use tmpl_grammar::{Command, Operand};
 use tmpl_meaning::MissingKey;
 use tmpl_shape::{
-    Base, Cause, Key, Kind, Kinds, Shape, Trouble, call_shape, chain_shape, copy_counted, fill,
-    has_kind, index_shape, join, kinds_of, null_gone, part_shape, printf_shape, within,
+    AbsentField, Base, Cause, Key, Kind, Kinds, Shape, Trouble, call_shape, chain_shape,
+    copy_counted, fill, has_kind, index_shape, join, kinds_of, null_gone, part_shape, printf_shape,
+    within,
 };
+
+/// What stands for an absent field by the option `missingkey`.
+fn absent_field(mode: MissingKey) -> AbsentField
+    ensures { result ≡ absent_field mode }
+{
+    match mode {
+        MissingKey::Default | MissingKey::Invalid => AbsentField::Nothing,
+        MissingKey::Zero => AbsentField::Null,
+        MissingKey::Error => AbsentField::Fault,
+    }
+}
 
 /// The shape of an operand, if it never is a fault.
 #[cycle(pipeline)]
@@ -40,9 +52,14 @@ fn operand_shape(
     }
     match operand {
         Operand::Dot => Ok(copy_counted(base, &state.dot)?),
-        Operand::Fields(names) => chain_shape(base, mode, names.as_slice(), &state.dot),
+        Operand::Fields(names) => chain_shape(
+            base,
+            absent_field(mode),
+            names.as_slice(),
+            &state.dot,
+        ),
         Operand::Variable { name, fields } => match variable_shape(name.as_slice(), &state.known) {
-            Some(shape) => chain_shape(base, mode, fields.as_slice(), shape),
+            Some(shape) => chain_shape(base, absent_field(mode), fields.as_slice(), shape),
             None => Err(Trouble::may_fail(base.alloc, Cause::Command)),
         },
         Operand::Bool(_) => Ok(Shape::Truths),
@@ -52,7 +69,7 @@ fn operand_shape(
         Operand::Function(func) => bare_shape(base, *func),
         Operand::Group { commands, fields } => {
             let shape = commands_shape(base, mode, state, commands.as_slice(), None)?;
-            chain_shape(base, mode, fields.as_slice(), &shape)
+            chain_shape(base, absent_field(mode), fields.as_slice(), &shape)
         }
     }
 }

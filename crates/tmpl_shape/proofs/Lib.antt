@@ -1,11 +1,7 @@
 pub mod KindLemmas
 pub mod ShapeLemmas
-pub mod FormatLemmas
-pub mod FieldLemmas
-pub mod CallLemmas
 pub mod NameLemmas
 pub mod ViewLemmas
 pub mod StepLemmas
 pub mod LeafLemmas
 pub mod MeetLemmas
-pub mod PartLemmas

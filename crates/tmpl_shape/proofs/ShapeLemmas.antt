@@ -8,7 +8,6 @@ use Rattle.std.specs.Str.{bytes_eq}
 use Rattle.tmpl_values.specs.Value.{Value, null, string, sequence, mapping, Items, no_item, item}
 use Rattle.tmpl_values.specs.Value.{Entries, no_entry, entry}
 use Rattle.tmpl_values.specs.Field.{entry_at}
-use Rattle.tmpl_meaning.specs.Pipeline.{without_null}
 use Rattle.tmpl_shape.specs.Shape.{Shape, never, nothings, nulls, truths, numbers, texts, exactly, anything, list_of, record_of}
 use Rattle.tmpl_shape.specs.Shape.{either, named, Names, Fields, no_field, others, field}
 use Rattle.tmpl_shape.specs.Shape.{EachItem, EachEntry, HasRequired, HasShape, IsField}
@@ -280,45 +279,3 @@ module _ (base : Base) (N : Names) (means : Means base.defs N) where
       by true e = within-has (either s t) texts v e h
       by false e = h
   blurred-has s v h = h
-
-  -- ---- null
-
-  never_null : (s : Shape) → has_kind base Blank s ≡ false → HasShape N s null → ⊥
-  never_null s e h = false≢true (sym e ∙ has_kind-has base N means s null h)
-
-  null_gone_by-has : (n : ℕ) (s : Shape) (v : Value) → HasShape N s v → HasShape N (null_gone_by base n s) (without_null v)
-  null_gone_by-has zero s null h = inr tt
-  null_gone_by-has zero s _ h = inl h
-  null_gone_by-has (suc n) nulls null h = tt
-  null_gone_by-has (suc n) nulls _ h = absurd h
-  null_gone_by-has (suc n) anything v h = tt
-  null_gone_by-has (suc n) (either s t) v h =
-      elim h [
-        | inl x ↦ join-left (null_gone_by base n s) (null_gone_by base n t) (without_null v) (null_gone_by-has n s v x)
-        | inr x ↦ join-right (null_gone_by base n s) (null_gone_by base n t) (without_null v) (null_gone_by-has n t v x)
-      ]
-  null_gone_by-has (suc n) (named x) v h = by (has_kind base Blank (named x)) refl (λ s. null_gone_by-has n s v)
-    where
-      known : (w : Value) → N x w → HasShape N (either (named x) nothings) (without_null w)
-      known null k = inr tt
-      known _ k = inl k
-
-      at : (o : Option Shape) → base.defs x ≡ o → ((s : Shape) → HasShape N s v → HasShape N (null_gone_by base n s) (without_null v))
-          → HasShape N (option_map_or (null_gone_by base n) o (either (named x) nothings)) (without_null v)
-      at None is f = known v h
-      at (Some s) is f = f s (means.unfolds x s v is h)
-
-      kept : (w : Value) → has_kind base Blank (named x) ≡ false → N x w → N x (without_null w)
-      kept null is k = absurd (never_null (named x) is k)
-      kept _ is k = k
-
-      by : (c : Bool) → has_kind base Blank (named x) ≡ c
-          → ((s : Shape) → HasShape N s v → HasShape N (null_gone_by base n s) (without_null v))
-          → HasShape N (if c then option_map_or (null_gone_by base n) (base.defs x) (either (named x) nothings) else named x) (without_null v)
-      by true is f = at (base.defs x) refl f
-      by false is f = kept v is h
-  null_gone_by-has (suc n) s null h = absurd h
-  null_gone_by-has (suc n) s _ h = h
-
-  pub null_gone-has : (s : Shape) (v : Value) → HasShape N s v → HasShape N (null_gone base s) (without_null v)
-  null_gone-has s v h = null_gone_by-has base.limit s v h

@@ -8,7 +8,7 @@ use Rattle.tmpl_shape.specs.computed.Shapes.{Test, refine_step, refine_by, field
 use Rattle.tmpl_shape.specs.computed.Shapes.{visit_step, visit_by}
 use Rattle.tmpl_shape.specs.declared.kind.Kind.{Kind}
 use Rattle.tmpl_grammar.specs.Tree.{Binding}
-use Rattle.tmpl_meaning.specs.declared.missing_key.MissingKey.{MissingKey}
+use Rattle.tmpl_shape.specs.declared.field.AbsentField.{AbsentField}
 use Rattle.tmpl_shape.specs.computed.View.{name_within}
 
 -- what holds of a number and one more holds where that is not zero
@@ -27,9 +27,9 @@ pub refine-next : (base : Base) (test : Test) (n : ℕ) (ns : List (List ℕ)) (
 refine-next base test n ns s e =
     by_step (λ i j. refine_by base test i ns s ≡ refine_step base test (refine_by base test j) ns s) (λ i. refl) n e
 
-pub field-next : (base : Base) (n : ℕ) (m : MissingKey) (x : List ℕ) (s : Shape) → (n ≡ 0 → ⊥)
-    → field_shape_by base n m x s ≡ field_step base (field_shape_by base (n - 1) m x) m x s
-field-next base n m x s e = by_step (λ i j. field_shape_by base i m x s ≡ field_step base (field_shape_by base j m x) m x s) (λ i. refl) n e
+pub field-next : (base : Base) (n : ℕ) (a : AbsentField) (x : List ℕ) (s : Shape) → (n ≡ 0 → ⊥)
+    → field_shape_by base n a x s ≡ field_step base (field_shape_by base (n - 1) a x) a x s
+field-next base n a x s e = by_step (λ i j. field_shape_by base i a x s ≡ field_step base (field_shape_by base j a x) a x s) (λ i. refl) n e
 
 pub index-next : (base : Base) (n : ℕ) (x : Key) (s : Shape) → (n ≡ 0 → ⊥)
     → index_shape_by base n x s ≡ index_step base (index_shape_by base (n - 1) x) x s

@@ -12,7 +12,6 @@ use crate::inclusion::{find, within};
 use crate::shape::{Base, Fields, Shape, copy_counted, copy_name, either};
 use std::alloc::{AllocError, Global};
 use tmpl_funcs::Func;
-use tmpl_meaning::MissingKey;
 use tmpl_values::Bytes;
 
 /// What is known of an index.
@@ -26,14 +25,22 @@ pub enum Key<'k> {
     Place(u64),
 }
 
-/// What stands for a field of this name that is absent, if that is no fault.
-fn absent_shape(alloc: Global, mode: MissingKey, name: &[u8]) -> Result<Shape, Trouble>
-    ensures { IfOk result (λ s. absent_shape mode ≡ Some (shape_of s)) }
+/// What stands for a field of a map that has no such entry.
+#[derive(Clone, Copy)]
+pub enum AbsentField {
+    Nothing,
+    Null,
+    Fault,
+}
+
+/// The shape of what stands for a field of this name that is absent, if that is no fault.
+fn absent_shape(alloc: Global, absent: AbsentField, name: &[u8]) -> Result<Shape, Trouble>
+    ensures { IfOk result (λ s. absent_shape absent ≡ Some (shape_of s)) }
 {
-    match mode {
-        MissingKey::Default | MissingKey::Invalid => Ok(Shape::Nothings),
-        MissingKey::Zero => Ok(Shape::Nulls),
-        MissingKey::Error => Err(Trouble::may_fail(alloc, Cause::Absent(copy_name(alloc, name)?))),
+    match absent {
+        AbsentField::Nothing => Ok(Shape::Nothings),
+        AbsentField::Null => Ok(Shape::Nulls),
+        AbsentField::Fault => Err(Trouble::may_fail(alloc, Cause::Absent(copy_name(alloc, name)?))),
     }
 }
 
@@ -65,40 +72,40 @@ fn blurred(base: &Base<'_>, shape: &Shape) -> Result<Shape, AllocError>
 /// A field of this shape.
 fn of_field(
     base: &Base<'_>,
-    mode: MissingKey,
+    absent: AbsentField,
     name: &[u8],
     required: bool,
     shape: &Shape,
 ) -> Result<Shape, Trouble>
-    ensures { IfOk result (λ s. of_field (base_of base.now) mode required (shape_of shape.now) ≡ Some (shape_of s)) }
+    ensures { IfOk result (λ s. of_field (base_of base.now) absent required (shape_of shape.now) ≡ Some (shape_of s)) }
 {
     let shape = blurred(base, shape)?;
     if required {
         return Ok(shape);
     }
-    Ok(join(base, shape, absent_shape(base.alloc, mode, name)?)?)
+    Ok(join(base, shape, absent_shape(base.alloc, absent, name)?)?)
 }
 
 /// The field of a name of a map of these fields.
 fn entry_shape(
     base: &Base<'_>,
-    mode: MissingKey,
+    absent: AbsentField,
     name: &[u8],
     fields: &Fields,
 ) -> Result<Shape, Trouble>
-    ensures { IfOk result (λ s. entry_shape (base_of base.now) mode name.now (fields_of fields.now)
+    ensures { IfOk result (λ s. entry_shape (base_of base.now) absent name.now (fields_of fields.now)
         ≡ Some (shape_of s)) }
 {
     let mut rest = fields;
     while let Fields::Field(first) = rest {
         if name == first.name.as_slice() {
-            return of_field(base, mode, name, first.required, &first.shape);
+            return of_field(base, absent, name, first.required, &first.shape);
         }
         rest = &first.rest;
     }
     match rest {
-        Fields::Others(shape) => of_field(base, mode, name, false, shape),
-        Fields::Closed | Fields::Field(_) => absent_shape(base.alloc, mode, name),
+        Fields::Others(shape) => of_field(base, absent, name, false, shape),
+        Fields::Closed | Fields::Field(_) => absent_shape(base.alloc, absent, name),
     }
 }
 
@@ -106,11 +113,11 @@ fn entry_shape(
 fn field_shape_by(
     base: &Base<'_>,
     steps: usize,
-    mode: MissingKey,
+    absent: AbsentField,
     name: &[u8],
     shape: &Shape,
 ) -> Result<Shape, Trouble>
-    ensures { IfOk result (λ s. field_shape_by (base_of base.now) steps mode name.now (shape_of shape.now)
+    ensures { IfOk result (λ s. field_shape_by (base_of base.now) steps absent name.now (shape_of shape.now)
         ≡ Some (shape_of s)) }
 {
     if steps == 0 {
@@ -119,18 +126,18 @@ fn field_shape_by(
     let fewer = steps - 1;
     match shape {
         Shape::Never => Ok(Shape::Never),
-        Shape::Nothings => match mode {
-            MissingKey::Default | MissingKey::Invalid | MissingKey::Zero => Ok(Shape::Nothings),
-            MissingKey::Error => Err(no_fields(base.alloc, name, shape)),
+        Shape::Nothings => match absent {
+            AbsentField::Nothing | AbsentField::Null => Ok(Shape::Nothings),
+            AbsentField::Fault => Err(no_fields(base.alloc, name, shape)),
         },
-        Shape::Record(fields) => entry_shape(base, mode, name, fields),
+        Shape::Record(fields) => entry_shape(base, absent, name, fields),
         Shape::Either(one, other) => {
-            let one = field_shape_by(base, fewer, mode, name, one)?;
-            let other = field_shape_by(base, fewer, mode, name, other)?;
+            let one = field_shape_by(base, fewer, absent, name, one)?;
+            let other = field_shape_by(base, fewer, absent, name, other)?;
             Ok(join(base, one, other)?)
         }
         Shape::Named(defined) => match find(base, defined.as_slice()) {
-            Some(shape) => field_shape_by(base, fewer, mode, name, shape),
+            Some(shape) => field_shape_by(base, fewer, absent, name, shape),
             None => Err(Trouble::may_fail(base.alloc, Cause::Command)),
         },
         _ => Err(no_fields(base.alloc, name, shape)),
@@ -140,18 +147,18 @@ fn field_shape_by(
 /// The field of the field of .. of a shape, if that is never a fault.
 pub fn chain_shape(
     base: &Base<'_>,
-    mode: MissingKey,
+    absent: AbsentField,
     names: &[Bytes],
     shape: &Shape,
 ) -> Result<Shape, Trouble>
-    ensures { IfOk result (λ s. chain_shape (base_of base.now) mode names.now (shape_of shape.now)
+    ensures { IfOk result (λ s. chain_shape (base_of base.now) absent names.now (shape_of shape.now)
         ≡ Some (shape_of s)) }
 {
     match names {
         [] => Ok(copy_counted(base, shape)?),
         [first, rest @ ..] => {
-            let shape = field_shape_by(base, base.limit, mode, first.as_slice(), shape)?;
-            chain_shape(base, mode, rest, &shape)
+            let shape = field_shape_by(base, base.limit, absent, first.as_slice(), shape)?;
+            chain_shape(base, absent, rest, &shape)
         }
     }
 }
@@ -196,7 +203,7 @@ fn keyed_shape(base: &Base<'_>, key: Key<'_>, fields: &Fields) -> Result<Shape, 
         ≡ Some (shape_of s)) }
 {
     match key {
-        Key::Name(name) => entry_shape(base, MissingKey::Zero, name, fields),
+        Key::Name(name) => entry_shape(base, AbsentField::Null, name, fields),
         Key::Text => {
             let any = any_field(base, fields)?;
             Ok(join(base, any, Shape::Nulls)?)

@@ -19,7 +19,7 @@ pub use call::call_shape;
 pub use cause::{Cause, Trouble};
 pub use change::{fill, is_never, join, null_gone, refine};
 pub use effort::Effort;
-pub use field::{Key, chain_shape, index_shape};
+pub use field::{AbsentField, Key, chain_shape, index_shape};
 pub use format::printf_shape;
 pub use inclusion::{has_name, within};
 pub use intersection::{Unmet, count_alternatives, meet, or_all, or_shape};

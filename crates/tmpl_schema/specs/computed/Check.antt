@@ -11,6 +11,9 @@ use Rattle.tmpl_grammar.specs.declared.tree.Control.TheVariants as control
 use Rattle.tmpl_syntax.specs.Tree as tree
 use Rattle.tmpl_syntax.specs.Tree.{NodeKind, text, action, control_node, break_node, continue_node, template_node, Nodes}
 use Rattle.tmpl_meaning.specs.declared.missing_key.MissingKey.{MissingKey}
+use Rattle.tmpl_meaning.specs.declared.missing_key.MissingKey.TheVariants as mode
+use Rattle.tmpl_shape.specs.declared.field.AbsentField.{AbsentField}
+use Rattle.tmpl_shape.specs.declared.field.AbsentField.TheVariants as absent_as
 use Rattle.tmpl_shape.specs.Shape.{Shape, nothings, truths, numbers, texts}
 use Rattle.tmpl_funcs.specs.Func.{takes}
 use Rattle.tmpl_funcs.specs.declared.func.Func.{Func}
@@ -53,6 +56,12 @@ bound_shapes (declare_pair key name) k e o ks = (name, e, o) ∷ (key, k, None) 
 -- the oldest, as many as this
 abbrev pub last_of : {T : Type 0} → ℕ → List T → List T
 last_of n xs = drop (length xs - n) xs
+
+-- what stands for an absent field by the option `missingkey`
+abbrev pub absent_field : MissingKey → AbsentField
+absent_field mode.Error = absent_as.Fault
+absent_field mode.Zero = absent_as.Null
+absent_field m = absent_as.Nothing
 
 -- the shape of an operand to which nothing is piped and no argument given
 abbrev pub alone : Option Shape → Option Shape → Operands → Option Shape
@@ -496,14 +505,14 @@ module _ (base : Base) where
   abbrev mutual
     pub operand_shape : MissingKey → State → Operand → Option Shape
     operand_shape m k dot = Some k.dot
-    operand_shape m k (fields names) = chain_shape base m names k.dot
-    operand_shape m k (variable name names) = option_and_then (chain_shape base m names) (variable_shape name k.env)
+    operand_shape m k (fields names) = chain_shape base (absent_field m) names k.dot
+    operand_shape m k (variable name names) = option_and_then (chain_shape base (absent_field m) names) (variable_shape name k.env)
     operand_shape m k (bool_constant c) = Some truths
     operand_shape m k (number_constant n) = Some numbers
     operand_shape m k (text_constant bytes) = Some texts
     operand_shape m k nil = Some nothings
     operand_shape m k (function f) = if takes f 0 then call_shape base f [] else None
-    operand_shape m k (group p names) = option_and_then (chain_shape base m names) (commands_shape m k p None)
+    operand_shape m k (group p names) = option_and_then (chain_shape base (absent_field m) names) (commands_shape m k p None)
 
     pub operand_shapes : MissingKey → State → Operands → Option (List Shape)
     operand_shapes m k no_operand = Some []

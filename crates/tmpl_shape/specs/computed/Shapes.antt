@@ -5,8 +5,8 @@ use Rattle.std.specs.Prelude.{if◌then◌else◌}
 use Rattle.std.specs.Option.{option_map, option_map_or, option_and_then}
 use Rattle.std.specs.Str.{bytes_eq}
 use Rattle.tmpl_grammar.specs.Tree.{Binding, declare_pair, text_constant, Operands, no_operand, operand}
-use Rattle.tmpl_meaning.specs.declared.missing_key.MissingKey.{MissingKey}
-use Rattle.tmpl_meaning.specs.declared.missing_key.MissingKey.TheVariants.{Zero, Error}
+use Rattle.tmpl_shape.specs.declared.field.AbsentField.{AbsentField}
+use Rattle.tmpl_shape.specs.declared.field.AbsentField.TheVariants.{Nothing, Null, Fault}
 use Rattle.tmpl_shape.specs.declared.kind.Kind.{Kind}
 use Rattle.tmpl_shape.specs.declared.kind.Kinds.{Kinds}
 use Rattle.tmpl_shape.specs.declared.kind.Kind.TheVariants.{Blank, Truth, Number, Text, Many}
@@ -208,10 +208,10 @@ text_part zero None = Some texts
 text_part i to = None
 
 -- what stands for a field that is absent, if that is no fault
-abbrev pub absent_shape : MissingKey → Option Shape
-absent_shape Error = None
-absent_shape Zero = Some nulls
-absent_shape m = Some nothings
+abbrev pub absent_shape : AbsentField → Option Shape
+absent_shape Nothing = Some nothings
+absent_shape Null = Some nulls
+absent_shape Fault = None
 
 abbrev pub visit : Shape → Shape → Option Visit
 visit k e = Some (record { key = k; element = e })
@@ -338,34 +338,34 @@ module _ (base : Base) where
   blurred (either s t) = if within (either s t) texts then texts else either s t
   blurred s = s
 
-  abbrev pub of_field : MissingKey → Bool → Shape → Option Shape
-  of_field m true s = Some (blurred s)
-  of_field m false s = both (Some (blurred s)) (absent_shape m)
+  abbrev pub of_field : AbsentField → Bool → Shape → Option Shape
+  of_field a true s = Some (blurred s)
+  of_field a false s = both (Some (blurred s)) (absent_shape a)
 
-  abbrev pub entry_shape : MissingKey → List ℕ → Fields → Option Shape
-  entry_shape m n no_field = absent_shape m
-  entry_shape m n (others s) = of_field m false s
-  entry_shape m n (field name required s fs) = if bytes_eq n name then of_field m required s else entry_shape m n fs
+  abbrev pub entry_shape : AbsentField → List ℕ → Fields → Option Shape
+  entry_shape a n no_field = absent_shape a
+  entry_shape a n (others s) = of_field a false s
+  entry_shape a n (field name required s fs) = if bytes_eq n name then of_field a required s else entry_shape a n fs
 
   -- the shape of a field, if that is never a fault
-  abbrev pub field_step : (Shape → Option Shape) → MissingKey → List ℕ → Shape → Option Shape
-  field_step f m name never = Some never
-  field_step f m name nothings = option_map (λ s. nothings) (absent_shape m)
-  field_step f m name (record_of fs) = entry_shape m name fs
-  field_step f m name (either s t) = both (f s) (f t)
-  field_step f m name (named x) = option_and_then f (base.defs x)
-  field_step f m name s = None
+  abbrev pub field_step : (Shape → Option Shape) → AbsentField → List ℕ → Shape → Option Shape
+  field_step f a name never = Some never
+  field_step f a name nothings = option_map (λ s. nothings) (absent_shape a)
+  field_step f a name (record_of fs) = entry_shape a name fs
+  field_step f a name (either s t) = both (f s) (f t)
+  field_step f a name (named x) = option_and_then f (base.defs x)
+  field_step f a name s = None
 
-  abbrev pub field_shape_by : ℕ → MissingKey → List ℕ → Shape → Option Shape
-  field_shape_by zero m name s = None
-  field_shape_by (suc n) m name s = field_step (field_shape_by n m name) m name s
+  abbrev pub field_shape_by : ℕ → AbsentField → List ℕ → Shape → Option Shape
+  field_shape_by zero a name s = None
+  field_shape_by (suc n) a name s = field_step (field_shape_by n a name) a name s
 
-  abbrev pub field_shape : MissingKey → List ℕ → Shape → Option Shape
-  field_shape m name s = field_shape_by base.limit m name s
+  abbrev pub field_shape : AbsentField → List ℕ → Shape → Option Shape
+  field_shape a name s = field_shape_by base.limit a name s
 
-  abbrev pub chain_shape : MissingKey → List (List ℕ) → Shape → Option Shape
-  chain_shape m [] s = Some s
-  chain_shape m (n ∷ ns) s = option_and_then (chain_shape m ns) (field_shape m n s)
+  abbrev pub chain_shape : AbsentField → List (List ℕ) → Shape → Option Shape
+  chain_shape a [] s = Some s
+  chain_shape a (n ∷ ns) s = option_and_then (chain_shape a ns) (field_shape a n s)
 
   -- any of the fields
   abbrev pub any_field : Fields → Shape
@@ -375,7 +375,7 @@ module _ (base : Base) where
 
   -- an entry, or null
   abbrev pub keyed_shape : Key → Fields → Option Shape
-  keyed_shape (of_name name) fs = entry_shape Zero name fs
+  keyed_shape (of_name name) fs = entry_shape Null name fs
   keyed_shape of_text fs = Some (join (any_field fs) nulls)
   keyed_shape (of_place i) fs = None
 

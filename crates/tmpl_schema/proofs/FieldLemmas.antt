@@ -23,6 +23,7 @@ use Rattle.tmpl_shape.specs.Shape.{EachItem, EachEntry, AreDistinct, HasRequired
 use Rattle.tmpl_shape.specs.computed.Means.{Means}
 use Rattle.tmpl_shape.specs.computed.Shapes.{Base, Test, has_least, is_among, is_apart, shows_there, least_of, lets_text, shape_at, is_never, is_required, with_field, with_refined, both, blurred, refine_record, refine_text, refine_by, refine, fill, absent_shape, of_field, entry_shape}
 use Rattle.tmpl_shape.specs.computed.Shapes.{field_shape_by, field_shape, chain_shape, any_field, Visit, both_visits, visit_by, visit_of}
+use Rattle.tmpl_schema.specs.computed.Check.{absent_field}
 use Rattle.tmpl_shape.proofs.ShapeLemmas.{same_name, or_cases, required-has, blurred-has, join-left, join-right}
 
 -- a value is as a test shows, but for being there
@@ -86,12 +87,12 @@ module _ (base : Base) (N : Names) (means : Means base.defs N) where
 
   -- ---- fields
 
-  absent-gives : (m : MissingKey) (n : List ℕ) → Gives (absent_shape m) (field_value m n missing)
+  absent-gives : (m : MissingKey) (n : List ℕ) → Gives (absent_shape (absent_field m)) (field_value m n missing)
   absent-gives mode.Error n = tt
   absent-gives mode.Zero n = tt
   absent-gives _ n = tt
 
-  of_nothing-gives : (m : MissingKey) (n : List ℕ) → Gives (option_map (λ s. nothings) (absent_shape m)) (field_value m n of_nothing)
+  of_nothing-gives : (m : MissingKey) (n : List ℕ) → Gives (option_map (λ s. nothings) (absent_shape (absent_field m))) (field_value m n of_nothing)
   of_nothing-gives mode.Error n = tt
   of_nothing-gives mode.Zero n = tt
   of_nothing-gives _ n = tt
@@ -99,28 +100,28 @@ module _ (base : Base) (N : Names) (means : Means base.defs N) where
   none-some : IsSome {T = Value} None → ⊥
   none-some e = false≢true e
 
-  missing-gives : (m : MissingKey) (n : List ℕ) (es : Entries) → entry_at n es ≡ None → (fs : Fields) → HasRequired fs es → Gives (entry_shape base m n fs) (field_value m n missing)
+  missing-gives : (m : MissingKey) (n : List ℕ) (es : Entries) → entry_at n es ≡ None → (fs : Fields) → HasRequired fs es → Gives (entry_shape base (absent_field m) n fs) (field_value m n missing)
   missing-gives m n es e no_field h = absent-gives m n
-  missing-gives m n es e (others s) h = both-right (Some (blurred base s)) (absent_shape m) (field_value m n missing) (absent-gives m n)
+  missing-gives m n es e (others s) h = both-right (Some (blurred base s)) (absent_shape (absent_field m)) (field_value m n missing) (absent-gives m n)
   missing-gives m n es e (field name required s fs) h = by (bytes_eq n name) refl required h.0 (missing-gives m n es e fs h.1)
     where
-      by : (c : Bool) → bytes_eq n name ≡ c → (r : Bool) → (r ≡ true → IsSome (entry_at name es)) → Gives (entry_shape base m n fs) (field_value m n missing)
-          → Gives (if c then of_field base m r s else entry_shape base m n fs) (field_value m n missing)
+      by : (c : Bool) → bytes_eq n name ≡ c → (r : Bool) → (r ≡ true → IsSome (entry_at name es)) → Gives (entry_shape base (absent_field m) n fs) (field_value m n missing)
+          → Gives (if c then of_field base (absent_field m) r s else entry_shape base (absent_field m) n fs) (field_value m n missing)
       by true is true there more =
           absurd (none-some (subst (λ (o : Option Value). IsSome o) (ap (λ (k : List ℕ). entry_at k es) (sym (same_name n name is)) ∙ e) (there refl)))
-      by true is false there more = both-right (Some (blurred base s)) (absent_shape m) (field_value m n missing) (absent-gives m n)
+      by true is false there more = both-right (Some (blurred base s)) (absent_shape (absent_field m)) (field_value m n missing) (absent-gives m n)
       by false is r there more = more
 
-  found-gives : (m : MissingKey) (n : List ℕ) (w : Value) (fs : Fields) → IsField N fs n w → Gives (entry_shape base m n fs) (field_value m n (found w))
+  found-gives : (m : MissingKey) (n : List ℕ) (w : Value) (fs : Fields) → IsField N fs n w → Gives (entry_shape base (absent_field m) n fs) (field_value m n (found w))
   found-gives m n w no_field h = absurd h
-  found-gives m n w (others s) h = both-left (Some (blurred base s)) (absent_shape m) (Ok w) (blurred-has base N means s w h)
+  found-gives m n w (others s) h = both-left (Some (blurred base s)) (absent_shape (absent_field m)) (Ok w) (blurred-has base N means s w h)
   found-gives m n w (field name required s fs) h = by (bytes_eq n name) refl h required (found-gives m n w fs)
     where
       by : (c : Bool) → bytes_eq n name ≡ c → IsField N (field name required s fs) n w → (r : Bool)
-          → (IsField N fs n w → Gives (entry_shape base m n fs) (field_value m n (found w)))
-          → Gives (if c then of_field base m r s else entry_shape base m n fs) (field_value m n (found w))
+          → (IsField N fs n w → Gives (entry_shape base (absent_field m) n fs) (field_value m n (found w)))
+          → Gives (if c then of_field base (absent_field m) r s else entry_shape base (absent_field m) n fs) (field_value m n (found w))
       by true is (inl x) true more = blurred-has base N means s w x.1
-      by true is (inl x) false more = both-left (Some (blurred base s)) (absent_shape m) (Ok w) (blurred-has base N means s w x.1)
+      by true is (inl x) false more = both-left (Some (blurred base s)) (absent_shape (absent_field m)) (Ok w) (blurred-has base N means s w x.1)
       by true is (inr x) r more = absurd (false≢true (sym x.0 ∙ is))
       by false is (inl x) r more = absurd (false≢true (sym is ∙ x.0))
       by false is (inr x) r more = more x.1
@@ -135,14 +136,14 @@ module _ (base : Base) (N : Names) (means : Means base.defs N) where
       by false is x more = more x h.1
 
   pub entry-gives : (m : MissingKey) (n : List ℕ) (fs : Fields) (es : Entries) → EachEntry (IsField N fs) es → HasRequired fs es
-      → Gives (entry_shape base m n fs) (field_value m n (option_map_or found (entry_at n es) missing))
+      → Gives (entry_shape base (absent_field m) n fs) (field_value m n (option_map_or found (entry_at n es) missing))
   entry-gives m n fs es each all = by (entry_at n es) refl
     where
-      by : (o : Option Value) → entry_at n es ≡ o → Gives (entry_shape base m n fs) (field_value m n (option_map_or found o missing))
+      by : (o : Option Value) → entry_at n es ≡ o → Gives (entry_shape base (absent_field m) n fs) (field_value m n (option_map_or found o missing))
       by None is = missing-gives m n es is fs all
       by (Some w) is = found-gives m n w fs (at-entry (IsField N fs) n w es is each)
 
-  field_by-gives : (i : ℕ) (m : MissingKey) (n : List ℕ) (s : Shape) (v : Value) → HasShape N s v → Gives (field_shape_by base i m n s) (field_value m n (field_at n v))
+  field_by-gives : (i : ℕ) (m : MissingKey) (n : List ℕ) (s : Shape) (v : Value) → HasShape N s v → Gives (field_shape_by base i (absent_field m) n s) (field_value m n (field_at n v))
   field_by-gives zero m n s v h = tt
   field_by-gives (suc i) m n never v h = absurd h
   field_by-gives (suc i) m n nothings nothing h = of_nothing-gives m n
@@ -151,24 +152,24 @@ module _ (base : Base) (N : Names) (means : Means base.defs N) where
   field_by-gives (suc i) m n (record_of fs) _ h = absurd h
   field_by-gives (suc i) m n (either s t) v h =
       elim h [
-        | inl x ↦ both-left (field_shape_by base i m n s) (field_shape_by base i m n t) (field_value m n (field_at n v)) (field_by-gives i m n s v x)
-        | inr x ↦ both-right (field_shape_by base i m n s) (field_shape_by base i m n t) (field_value m n (field_at n v)) (field_by-gives i m n t v x)
+        | inl x ↦ both-left (field_shape_by base i (absent_field m) n s) (field_shape_by base i (absent_field m) n t) (field_value m n (field_at n v)) (field_by-gives i m n s v x)
+        | inr x ↦ both-right (field_shape_by base i (absent_field m) n s) (field_shape_by base i (absent_field m) n t) (field_value m n (field_at n v)) (field_by-gives i m n t v x)
       ]
   field_by-gives (suc i) m n (named y) v h = by (base.defs y) refl (λ s. field_by-gives i m n s v)
     where
-      by : (o : Option Shape) → base.defs y ≡ o → ((s : Shape) → HasShape N s v → Gives (field_shape_by base i m n s) (field_value m n (field_at n v)))
-          → Gives (option_and_then (field_shape_by base i m n) o) (field_value m n (field_at n v))
+      by : (o : Option Shape) → base.defs y ≡ o → ((s : Shape) → HasShape N s v → Gives (field_shape_by base i (absent_field m) n s) (field_value m n (field_at n v)))
+          → Gives (option_and_then (field_shape_by base i (absent_field m) n) o) (field_value m n (field_at n v))
       by None is f = tt
       by (Some s) is f = f s (means.unfolds y s v is h)
   field_by-gives (suc i) m n _ v h = tt
 
-  field-gives : (m : MissingKey) (n : List ℕ) (s : Shape) (v : Value) → HasShape N s v → Gives (field_shape base m n s) (field_value m n (field_at n v))
+  field-gives : (m : MissingKey) (n : List ℕ) (s : Shape) (v : Value) → HasShape N s v → Gives (field_shape base (absent_field m) n s) (field_value m n (field_at n v))
   field-gives m n s v h = field_by-gives base.limit m n s v h
 
-  pub chain-gives : (m : MissingKey) (ns : List (List ℕ)) (s : Shape) (v : Value) → HasShape N s v → Gives (chain_shape base m ns s) (chain m ns v)
+  pub chain-gives : (m : MissingKey) (ns : List (List ℕ)) (s : Shape) (v : Value) → HasShape N s v → Gives (chain_shape base (absent_field m) ns s) (chain m ns v)
   chain-gives m [] s v h = h
   chain-gives m (n ∷ ns) s v h =
-      then-gives (chain_shape base m ns) (chain m ns) (chain-gives m ns) (field_shape base m n s) (field_value m n (field_at n v)) (field-gives m n s v h)
+      then-gives (chain_shape base (absent_field m) ns) (chain m ns) (chain-gives m ns) (field_shape base (absent_field m) n s) (field_value m n (field_at n v)) (field-gives m n s v h)
 
   -- ---- narrowing
 

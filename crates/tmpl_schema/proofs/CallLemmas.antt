@@ -23,7 +23,7 @@ use Rattle.tmpl_shape.specs.computed.Calls.{has, each_kind, clashes, comparable,
 use Rattle.tmpl_shape.specs.computed.Calls.{truths_if, numbers_if, equal_shape, kinds_shape, call_shape}
 use Rattle.tmpl_shape.proofs.ShapeLemmas.{or_cases, neither}
 use Rattle.tmpl_shape.proofs.KindLemmas.{kind_of, has_kind-has}
-use Rattle.tmpl_shape.proofs.FieldLemmas.{Gives}
+use Rattle.tmpl_schema.proofs.FieldLemmas.{Gives}
 
 -- what holds of each kind holds of one
 pub at-kind : (p : Kind → Bool) → each_kind p ≡ true → (k : Kind) → p k ≡ true

@@ -14,7 +14,7 @@ use Rattle.tmpl_meaning.specs.Fault.{Cause, call_failed}
 use Rattle.tmpl_shape.specs.Shape.{Shape, never, texts, exactly, list_of, either, named, Names, EachItem, HasShape}
 use Rattle.tmpl_shape.specs.computed.Means.{Means}
 use Rattle.tmpl_shape.specs.computed.Shapes.{Base, list_part, text_part, part_shape_by, part_shape}
-use Rattle.tmpl_shape.proofs.FieldLemmas.{Gives, both-left, both-right}
+use Rattle.tmpl_schema.proofs.FieldLemmas.{Gives, both-left, both-right}
 
 module _ (P : Value → Type 0) where
   -- an item before the end

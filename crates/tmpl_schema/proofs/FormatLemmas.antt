@@ -31,8 +31,8 @@ use Rattle.tmpl_shape.specs.computed.Shapes.{Base, kinds_of}
 use Rattle.tmpl_shape.specs.computed.Calls.{each_kind}
 use Rattle.tmpl_shape.specs.computed.Formats.{sample, kind_in, samples, prints, printed_kinds, printf_shape}
 use Rattle.tmpl_shape.proofs.KindLemmas.{kind_of}
-use Rattle.tmpl_shape.proofs.FieldLemmas.{Gives}
-use Rattle.tmpl_shape.proofs.CallLemmas.{HaveShapes, AreAmong, IsAmong, all-among, at-kind}
+use Rattle.tmpl_schema.proofs.FieldLemmas.{Gives}
+use Rattle.tmpl_schema.proofs.CallLemmas.{HaveShapes, AreAmong, IsAmong, all-among, at-kind}
 
 -- ---- a verb takes each value of a kind or none
 
