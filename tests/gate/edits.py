@@ -364,11 +364,11 @@ def refused_among(crate, edits):
     return refused_among(crate, edits[:half]) + refused_among(crate, edits[half:])
 
 
-def copied(room):
-    """Copies the repository, with links to the libraries that `rt ci` left in it: each crate's edits are read in a copy of their own, since
-    the crates above one that has an edit would be read over it."""
+def copied(room, name):
+    """Copies the repository, with links to the libraries of this crate and of those below it that `rt ci` left in it: each crate's edits are
+    read in a copy of their own, since the crates above one that has an edit would be read over it."""
     shutil.copytree(f"{harness.TOP}/crates", f"{room}/crates", ignore=shutil.ignore_patterns("out"))
-    for name in os.listdir(f"{room}/crates"):
+    for name in [name, *crates_below(name)]:
         libraries = f"{harness.TOP}/crates/{name}/out/rlib"
         if os.path.isdir(libraries):
             shutil.copytree(libraries, f"{room}/crates/{name}/out/rlib", copy_function=linked)
@@ -391,7 +391,7 @@ def linked(source, to):
 def read_edits(name):
     """Has the front end read the edits of a crate: its checksum, and how many it takes and how many not."""
     with tempfile.TemporaryDirectory(prefix="edits-") as room:
-        copied(room)
+        copied(room, name)
         told = checksum(room, name, READ_OF)
         return told, *read_edits_in(f"{room}/crates/{name}", name)
 

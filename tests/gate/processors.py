@@ -25,8 +25,8 @@ def work_of(process):
     with open(f"/proc/{process}/cmdline", "rb") as it:
         words = it.read().decode(errors="replace").split("\0")
     crate = words[words.index("--crate-name") + 1] if "--crate-name" in words[:-1] else "other"
-    room = os.path.basename(os.readlink(f"/proc/{process}/cwd"))
-    kind = "edits" if room.startswith("rt-edit") else "proof"
+    room = os.readlink(f"/proc/{process}/cwd")
+    kind = "edits" if "/edits-" in room or os.path.basename(room).startswith("rt-edit") else "proof"
     return crate, kind
 
 

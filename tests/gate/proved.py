@@ -1,7 +1,8 @@
-"""Has `rt lib` take the libraries that `rt ci` has proved.
+"""Has the toolchain take the libraries that `rt ci` has proved.
 
-`rt ci` leaves them in crates/*/out without the mark by which the toolchain knows what a library was made of, so `rt lib` would prove each
-of them once more before it builds the C library. runner.py calls `mark` as soon as `rt ci` has passed."""
+`rt ci` leaves them in crates/*/out without the mark by which the toolchain knows what a library was made of, so `rt lib` and `rt check` would
+prove each of them once more. runner.py calls `mark` as soon as `rt ci` has passed; tried.py marks those of a copy while it runs."""
+import contextlib
 import os
 import subprocess
 import sys
@@ -30,7 +31,20 @@ def mark(begun):
         return 0
     if any(os.stat(it).st_mtime >= begun for it in files):
         return 0
-    for crate in marked:
-        with open(f"{os.path.dirname(crate.rlib)}/stamp", "w", encoding="utf-8") as it:
-            it.write(crate.stamp())
+    write_stamps(marked)
     return len(marked)
+
+
+def mark_copy(room):
+    """Marks the libraries of a copy of the repository, all of which were proved as they stand there."""
+    write_stamps([it for it in toolchain().crates_below(f"{room}/crates") if it.makes_rlib() and os.path.isdir(it.rlib)])
+
+
+def write_stamps(crates):
+    """Writes the toolchain's mark of each of these libraries: a file of its own, since that of a copy may be a link."""
+    for crate in crates:
+        path = f"{os.path.dirname(crate.rlib)}/stamp"
+        with contextlib.suppress(FileNotFoundError):
+            os.remove(path)
+        with open(path, "w", encoding="utf-8") as it:
+            it.write(crate.stamp())

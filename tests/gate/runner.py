@@ -11,6 +11,7 @@ and nowhere else.
     tests/run --self         the tests of the tests: each must fail over programs that answer wrongly
     tests/run --all --record writes what each part took to tests/gate/times.json, from which the times still to come are told
 
+The bodies of `tried` are tried while `rt ci` proves other crates, by what it leaves of the processors.
 What a test leaves out for want of a tool is named at the end; with RILPHONG_TOOLS=all in the environment a run fails where one is missing that
 Debian has (tests/lib/tools.py). Tests run side by side; those that call make run one after the other. The libraries that `rt ci` proved are marked for `rt lib`. Without RT_JOBS
 `rt ci` gives a check the processors that no other waits for, so that the longest chain of crates ends sooner; with RT_JOBS=N it has N checks of
@@ -27,7 +28,7 @@ import threading
 import time
 from concurrent.futures import ThreadPoolExecutor
 
-from tests.gate import processors, proved
+from tests.gate import processors, proved, tried
 from tests.lib import harness, programs, tools
 
 PROOFS = "proofs"
@@ -71,6 +72,8 @@ OVER_ROWS = ("rendered", "rendered-by-rattle", "problems", "verdicts")  # these 
 TIMES = f"{harness.TESTS}/gate/times.json"
 CRATE = re.compile(r"rt: (\w+)(?: proved| is kept)\b")  # a line of `rt ci` that says that a crate is done
 SLOWEST = 5
+ROOM = 6_000_000_000  # bytes that are free when a check begins beside the proofs
+YIELDING = ("nice", "-n", "19")
 
 
 def command(name, more=None):
@@ -105,10 +108,10 @@ class Progress:
         return f"{self.whole - len(self.left)} of {self.whole} tests, {self.rest()}"
 
 
-def run(name, environment, see, more=None):
+def run(name, environment, see, more=None, before=()):
     """Runs a command, shows each of its lines to `see`: what passed and what failed, and the seconds of processors that it took."""
     last = ""
-    ran = subprocess.Popen(command(name, more), stdout=subprocess.PIPE, stderr=subprocess.STDOUT, cwd=harness.TOP, env=environment)
+    ran = subprocess.Popen([*before, *command(name, more)], stdout=subprocess.PIPE, stderr=subprocess.STDOUT, cwd=harness.TOP, env=environment)
     for line in ran.stdout:
         text = line.decode(errors="replace").rstrip("\n")
         see(text)
@@ -122,7 +125,52 @@ def run(name, environment, see, more=None):
     return passed, failed, used.ru_utime + used.ru_stime
 
 
-def prove(progress):
+class Beside:
+    """Tries wrong bodies of crates that are proved while `rt ci` proves others: one crate after the other, and where memory is free."""
+
+    def __init__(self, is_asked):
+        self.is_asked, self.pool, self.lock = is_asked, ThreadPoolExecutor(1), threading.Lock()
+        self.futures, self.begun, self.has_ended = [], [], False
+
+    def add(self, name):
+        if self.is_asked and name in tried.TRIED:
+            self.futures.append(self.pool.submit(self.test, name))
+
+    def begin(self, name):
+        """Whether a crate is begun now."""
+        with self.lock:
+            can_begin = not self.has_ended and free_memory() >= ROOM
+            self.begun += [name] * can_begin
+            return can_begin
+
+    def test(self, name):
+        """What came of a crate, if it was begun."""
+        while not self.begin(name):
+            if self.has_ended:
+                return ()
+            time.sleep(1)
+        lines = []
+        came = run("tried", os.environ, lines.append, f"--proved {name}", YIELDING)
+        print(f"== tried {name}", *lines, sep="\n", flush=True)
+        return (came,)
+
+    def end(self):
+        """Begins no more, and gives the crates that are left."""
+        with self.lock:
+            self.has_ended = True
+            return [it for it in tried.wanted() if it not in self.begun]
+
+    def came(self):
+        """What came of each crate that was begun."""
+        return [came for it in self.futures for came in it.result()]
+
+
+def free_memory():
+    """The memory in bytes that processes may still take."""
+    return 1024 * int(re.search(r"^MemAvailable: *(\d+) kB$", programs.read("/proc/meminfo"), re.MULTILINE)[1])
+
+
+def prove(progress, beside):
     """Has `rt ci` prove all, and marks what it proved for `rt lib`."""
     begun = time.time()
 
@@ -130,6 +178,7 @@ def prove(progress):
         print(line, flush=True)
         if found := CRATE.match(line):
             progress.end_crate(found[1])
+            beside.add(found[1])
 
     came = run(PROOFS, os.environ, see)
     progress.crates.clear()
@@ -255,9 +304,7 @@ def told_table(came):
 
 def record(came, watch):
     """Writes down what each crate and each test took, in seconds of processors."""
-    crates = {}
-    for (crate, _), spent in watch.minutes().items():
-        crates[crate] = crates.get(crate, 0) + round(60 * spent)
+    crates = {crate: round(60 * spent) for (crate, kind), spent in watch.minutes().items() if kind == "proof"}
     tests = {name: round(seconds, 1) for name, (_, _, seconds) in came.items() if name != PROOFS}
     told = {"day": datetime.date.today().isoformat(), "processors": harness.processes(), "crates": crates, "tests": tests}
     with open(TIMES, "w", encoding="utf-8") as it:
@@ -284,14 +331,18 @@ def main():
     is_quick = not given.all and not given.names
     lanes = 1 if len(names) == 1 else harness.processes()
     progress, begun, watch, came = Progress(names, lanes), time.time(), processors.Watch(), {}
+    words, beside = dict(QUICK) if is_quick else {}, Beside("tried" in names)
     if PROOFS in names:
-        came[PROOFS] = prove(progress)
+        came[PROOFS] = prove(progress, beside)
+        words["tried"] = " ".join(beside.end())
     missing = choose_programs(names, is_quick)
     environment = {**os.environ, "PROCESSES": str(max(1, harness.processes() // (1 if lanes == 1 else 2)))}
-    its = Lanes([it for it in names if it != PROOFS], progress, lanes, environment, QUICK if is_quick else {})
+    done = {PROOFS} if words.get("tried", "all") else {PROOFS, "tried"}
+    its = Lanes([it for it in names if it not in done], progress, lanes, environment, words)
     its.build(missing)
     came.update(its.run())
     if PROOFS in came:
+        came.update({"tried": tuple(map(sum, zip(*beside.came(), came.get("tried", (0, 0, 0)))))} if beside.is_asked else {})
         print("== processors", *watch.table(), sep="\n")
     print("== in all")
     told_table(came)

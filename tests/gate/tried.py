@@ -6,7 +6,9 @@ functions that they change are checked, with those that these call: so a body is
 calls one which is refused is not judged, so the bodies that are left are put in once more without the others, over what that check proved,
 until no check refuses any. `make edits` tries all of edits/.
 
-    tried.py [CRATE..]     tries those of all crates, or of these; RT_JOBS=N takes N crates side by side, else as many as there are processors"""
+    tried.py [CRATE..]     tries those of all crates, or of these; RT_JOBS=N takes N crates side by side, else as many as there are processors
+    tried.py --proved CRATE
+                           tries those of a crate that `rt ci` has just proved, while it proves others"""
 import os
 import re
 import sys
@@ -14,7 +16,7 @@ import tempfile
 import time
 from concurrent.futures import ThreadPoolExecutor
 
-from tests.gate import edits
+from tests.gate import edits, proved
 from tests.lib import harness
 
 # by crate, the dearest first
@@ -68,13 +70,15 @@ def refused_in(crate, name, left):
     return told
 
 
-def complaint(name):
+def complaint(name, is_proved):
     """Which of a crate's wrong bodies are not refused as they must be, if any."""
     left, begun = [f"{it}.edit" for it in TRIED.get(name, "").split()], time.time()
     if not left:
         return "none of its wrong bodies is tried by the gate"
     with tempfile.TemporaryDirectory(prefix="edits-") as room:
-        edits.copied(room)
+        edits.copied(room, name)
+        if is_proved:
+            proved.mark_copy(room)
         crate = f"{room}/crates/{name}"
         edits.take_edits(crate, "edits")
         missing = [it for it in left if not os.path.exists(f"{crate}/must-fail/{it}")]
@@ -92,9 +96,9 @@ def complaint(name):
 
 
 def main(words):
-    crates = words or wanted()
+    is_proved, crates = "--proved" in words, [it for it in words if it != "--proved"] or wanted()
     with ThreadPoolExecutor(int(os.environ.get("RT_JOBS") or harness.processes())) as pool:
-        told = dict(zip(crates, pool.map(complaint, crates)))
+        told = dict(zip(crates, pool.map(complaint, crates, [is_proved] * len(crates))))
     failed = {name: why for name, why in told.items() if why}
     print(*[f"WRONG BODIES of {name}: {why}" for name, why in failed.items()], sep="\n", end="\n" if failed else "")
     return harness.closing(sum(len(TRIED[name].split()) for name in told if name not in failed), len(failed))

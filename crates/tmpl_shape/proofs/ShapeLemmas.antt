@@ -5,7 +5,7 @@ use Rattle.std.proofs.lemmas.Bool.{false≢true, and_parts, leb-true}
 use Rattle.std.proofs.lemmas.Slice.Eq.{bytes_eq-Decides}
 use Rattle.std.specs.Option.{option_map_or}
 use Rattle.std.specs.Str.{bytes_eq}
-use Rattle.tmpl_values.specs.Value.{Value, null, string, sequence, mapping, Items, no_item, item}
+use Rattle.tmpl_values.specs.Value.{Value, string, sequence, mapping, Items, no_item, item}
 use Rattle.tmpl_values.specs.Value.{Entries, no_entry, entry}
 use Rattle.tmpl_values.specs.Field.{entry_at}
 use Rattle.tmpl_shape.specs.Shape.{Shape, never, nothings, nulls, truths, numbers, texts, exactly, anything, list_of, record_of}
@@ -14,9 +14,7 @@ use Rattle.tmpl_shape.specs.Shape.{EachItem, EachEntry, HasRequired, HasShape, I
 use Rattle.tmpl_shape.specs.computed.Means.{Means}
 use Rattle.tmpl_shape.specs.computed.Shapes.{Base, shape_at, is_required, requires_all, is_listed, others_within}
 use Rattle.tmpl_shape.specs.computed.Shapes.{fields_along, fields_within, record_within, each_along, has_name, if_more, plain_within, some_along, some_part, within_by}
-use Rattle.tmpl_shape.specs.computed.Shapes.{blurred, within, join, has_kind, null_gone_by, null_gone}
-use Rattle.tmpl_shape.specs.declared.kind.Kind.TheVariants.{Blank}
-use Rattle.tmpl_shape.proofs.KindLemmas.{has_kind-has}
+use Rattle.tmpl_shape.specs.computed.Shapes.{blurred, within, join}
 
 pub or_cases : (a c : Bool) → (a || c) ≡ true → (a ≡ true) ⊎ (c ≡ true)
 or_cases true c e = inl refl
