@@ -435,11 +435,22 @@ def drawn_leaving(draw, scope):
     return line
 
 
+def drawn_own_range(draw, scope):
+    """A range, in it what is known of what it ranges over, and past it what is not."""
+    place = draw.choice(["$.", "$.", "$r."]) + draw.choice(["a", "b", "c", "a.b"])
+    start = "{{$r := %s}}" % draw.choice([scope[0], "$", "$.a"]) if place.startswith("$r") else ""
+    used = draw.choice(["{{len P}}", "{{index P 0}}", "{{index P 0}}", "{{len (slice P 1)}}", "{{index P 1}}", '{{printf "%s" (index P 0)}}', "{{range P}}{{index P 0}}{{end}}"])
+    change = draw.choice(["", "", "{{break}}"] + ["{{$r = .}}", "{{$r = $.b}}"] * bool(start))
+    form = draw.choice(["{{range P}}USED CHANGE{{end}}", "{{range P}}USED CHANGE{{end}}", "{{range $i, $e := P}}CHANGE USED{{end}}", "{{range P}}CHANGE{{end}}USED",
+                        "{{range P}}{{else}}USED{{end}}", "{{range $e := P}}{{if $e}}CHANGE{{end}}USED{{end}}"])
+    return start + form.replace("USED", used).replace("CHANGE", change).replace("P", place)
+
+
 def drawn_line(draw, depth, scope):
     """A part of a template, over dot and the variables in scope."""
     path = drawn_path(draw, scope)
     if draw.random() < 0.4:
-        return draw.choice([drawn_printf, drawn_index, drawn_part, drawn_part, drawn_comparison, drawn_tagged, drawn_tagged, drawn_leaving, drawn_leaving])(draw, scope)
+        return draw.choice([drawn_printf, drawn_index, drawn_part, drawn_part, drawn_comparison, drawn_tagged, drawn_tagged, drawn_leaving, drawn_leaving, drawn_own_range])(draw, scope)
     kind = draw.randrange(10) if depth else 0
     inner = "".join(drawn_line(draw, depth - 1, scope) for _ in range(draw.randrange(1, 3))) if depth else ""
     if kind == 0:

@@ -1,5 +1,5 @@
 -- For code on controls: what is known after one, by what is known after its parts.
-use Rattle.std.proofs.Common.{rules, ◌≡◌, true, Option, Some, refl}
+use Rattle.std.proofs.Common.{rules, ◌≡◌, true, Option, Some, refl, subst}
 use Rattle.tmpl_grammar.specs.Tree.{Header}
 use Rattle.tmpl_grammar.specs.declared.tree.Control.{Control}
 use Rattle.tmpl_grammar.specs.View.{header_of}
@@ -11,7 +11,7 @@ use Rattle.tmpl_syntax.specs.declared.tree.ControlNode.{ControlNode, out-Control
 use Rattle.tmpl_meaning.specs.declared.missing_key.MissingKey.{MissingKey}
 use Rattle.tmpl_shape.specs.Shape.{Shape}
 use Rattle.tmpl_shape.specs.computed.Shapes.{Base, Visit, visit_of}
-use Rattle.tmpl_schema.specs.computed.Check.{Known, State, Table, after_both, after_parts, after_node, after_nodes, fall_through, holds_loop, in_body, in_other, settle_soon, pipeline_shape}
+use Rattle.tmpl_schema.specs.computed.Check.{Known, State, Table, after_parts, past_parts, after_node, after_nodes, at_head, fall_through, holds_loop, in_body, in_other, settle_soon, pipeline_shape}
 use Rattle.tmpl_schema.specs.computed.View.{after_choice_by, after_range_by, ranged_by, turn_by}
 
 module _ (base : Base) (m : MissingKey) (table : Table) (loop : Option Known) (h : Header) (k : State) (body other : Nodes) where
@@ -20,19 +20,16 @@ module _ (base : Base) (m : MissingKey) (table : Table) (loop : Option Known) (h
       → after_parts base (fall_through table body other) k.env one two ≡ Some ks → after_choice_by base m table loop c h k body other s ≡ Some ks
   choice-after c s one two ks a b e = rw (a, b) e
 
-  pub range-is : (v : Visit) (head two : Known) → settle_soon base (turn_by base m table h v body) k.env ≡ Some head
-      → after_nodes base m table loop k other ≡ Some two
-      → after_range_by base m table loop h k body other v ≡ after_both base k.env head two
-  range-is v head two a b = rw (a, b) refl
-
   pub visit-after : (s : Shape) (v : Visit) (ks : Known) → visit_of base h.binding s ≡ Some v
       → after_range_by base m table loop h k body other v ≡ Some ks → ranged_by base m table loop h k body other s ≡ Some ks
   visit-after s v ks a e = rw a e
 
-  pub range-after : (v : Visit) (head two ks : Known) → settle_soon base (turn_by base m table h v body) k.env ≡ Some head
-      → after_nodes base m table loop k other ≡ Some two → after_both base k.env head two ≡ Some ks
-      → after_range_by base m table loop h k body other v ≡ Some ks
-  range-after v head two ks a b e = rw (a, b) e
+  pub range-is : (v : Visit) (start head two : Known) → start ≡ at_head base h k → settle_soon base (turn_by base m table h v body) start ≡ Some head
+      → after_nodes base m table loop k other ≡ Some two
+      → after_range_by base m table loop h k body other v ≡ after_parts base (past_parts control.Range table body other) k.env head two
+  range-is v start head two is a b =
+      let found : settle_soon base (turn_by base m table h v body) (at_head base h k) ≡ Some head =
+      subst (λ (i : Known). settle_soon base (turn_by base m table h v body) i ≡ Some head) is a in rw (found, b) refl
 
 pub control_seen : (c : ControlNode) → control_of c
     ≡ control_node (out-ControlNode c).control (header_of (out-ControlNode c).header) (nodes_in (out-ControlNode c).body.items) (nodes_in (out-ControlNode c).other.items)
@@ -45,7 +42,5 @@ module _ (base : Base) (m : MissingKey) (table : Table) (loop : Option Known) (k
   range-control n h body other s is holds shape = rw is (rw (holds, shape) refl)
 
 pub ruleset choices = (choice-after)
-
-pub ruleset ranges = (range-after)
 
 pub ruleset visits = (visit-after)

@@ -31,9 +31,9 @@ use Rattle.tmpl_schema.specs.computed.Check.{alone, key_of, text_of, deciding_sh
 use Rattle.tmpl_schema.specs.computed.Check.{entry_by, entry_for}
 use Rattle.tmpl_schema.specs.computed.Check.{operand_shape, operand_shapes, junction_shape, entry_along, indexed_shape}
 use Rattle.tmpl_schema.specs.computed.Check.{sliced_shape, printed_shape, command_shape, commands_shape, pipeline_shape}
-use Rattle.tmpl_schema.specs.computed.Check.{all_within, join_all, after_both, settle_known, settle_soon}
+use Rattle.tmpl_schema.specs.computed.Check.{all_within, join_all, settle_known, settle_soon}
 use Rattle.tmpl_schema.specs.computed.Check.{leave_with, holds_loop, turn_known, in_body, in_other, at_start, is_safe}
-use Rattle.tmpl_schema.specs.computed.Check.{after_choice, after_range, after_control, after_call}
+use Rattle.tmpl_schema.specs.computed.Check.{at_head, after_choice, after_range, after_control, after_call}
 use Rattle.tmpl_schema.specs.computed.Check.{after_node, after_nodes, after_parts, dot_after, fall_through}
 use Rattle.tmpl_schema.specs.declared.flow.FallThrough.{FallThrough}
 use Rattle.tmpl_schema.specs.computed.Safe.{IsAccepted, IsCallee, IsChecked, mode_for}
@@ -205,17 +205,17 @@ module _ (base : Base) where
         then-keeps _ _ _ _ (λ a. then-keeps _ _ _ _ (λ b. keeps-same (after_parts base w k.env a b))
         (in_rest (in_other base h k s))) (in_f (in_body base c h k s))
 
-    range-keeps : (f g : Option Known → Checked) (other rest : Checked) → ((l : Option Known) → KeepsEach (f l) (g l))
-        → KeepsEach other rest → (v : Visit) → Keeps (after_range base h k f other v) (after_range base h k g rest v)
-    range-keeps f g other rest in_f in_rest v =
-        then-keeps _ _ _ _ (λ a. then-keeps _ _ _ _ (λ b. keeps-same (after_both base k.env a b)) (in_rest k))
-        (soon-keeps (turn_known h v f) (turn_known h v g) (λ ks. map-keeps _ _ _ (in_f (Some ks) _)) k.env)
+    range-keeps : (w : FallThrough) (f g : Option Known → Checked) (other rest : Checked) → ((l : Option Known) → KeepsEach (f l) (g l))
+        → KeepsEach other rest → (v : Visit) → Keeps (after_range base w h k f other v) (after_range base w h k g rest v)
+    range-keeps w f g other rest in_f in_rest v =
+        then-keeps _ _ _ _ (λ a. then-keeps _ _ _ _ (λ b. keeps-same (after_parts base w k.env a b)) (in_rest k))
+        (soon-keeps (turn_known h v f) (turn_known h v g) (λ ks. map-keeps _ _ _ (in_f (Some ks) _)) (at_head base h k))
 
     control-keeps : (w : FallThrough) (c : Control) (loop : Option Known) (f g : Option Known → Checked) (other rest : Checked)
         → ((l : Option Known) → KeepsEach (f l) (g l)) → KeepsEach other rest → (s : Shape)
         → Keeps (after_control base w c loop h k f other s) (after_control base w c loop h k g rest s)
     control-keeps w control.Range loop f g other rest in_f in_rest s =
-        same-keeps _ _ (visit_of base h.binding s) (range-keeps f g other rest in_f in_rest)
+        same-keeps _ _ (visit_of base h.binding s) (range-keeps w f g other rest in_f in_rest)
     control-keeps w control.If loop f g other rest in_f in_rest s =
         choice-keeps w control.If (f loop) (g loop) other rest (in_f loop) in_rest s
     control-keeps w control.With loop f g other rest in_f in_rest s =

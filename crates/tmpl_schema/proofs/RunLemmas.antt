@@ -1,12 +1,14 @@
 -- For the law `runs_safely`: where nodes are accepted, a run of them has no fault but those of steps and depth, and leaves the variables with the
 -- shapes that are computed.
-use Rattle.std.specs.Prelude.{◌++◌, Contains}
+use Rattle.std.specs.Prelude.{◌++◌, ◌==◌, ℤ, pos, not, Contains}
+use Rattle.std.specs.Ordering.{int_eq}
 use Rattle.std.proofs.Common.{inl, inr, rules, ◌≡◌, ◌-◌, ◌≤◌, ◌||◌, ℕ, zero, suc, nat_eq, Bool, true, false, List, [], ◌∷◌, Option, Some, None, Result, Ok, Err, IfSome, length, refl, sym, subst, if◌then◌else◌}
 use Rattle.std.proofs.lemmas.Bool.{false≢true}
+use Rattle.std.proofs.lemmas.Bool.Decides.{Decides-eqb, Decides-int_eq}
 use Rattle.std.proofs.lemmas.Option.{cond_some, option_and_then_some}
 use Rattle.std.specs.Option.{option_and_then, option_map, option_map_or}
-use Rattle.tmpl_values.specs.Value.{Value, nothing, string}
-use Rattle.tmpl_values.specs.Elements.{Element}
+use Rattle.tmpl_values.specs.Value.{Value, nothing, null, boolean, number, string, sequence, mapping, no_item, item, no_entry, entry}
+use Rattle.tmpl_values.specs.Elements.{Element, elements, elements_of_entries, values_of_items}
 use Rattle.tmpl_values.specs.Truth.{truth}
 use Rattle.tmpl_grammar.specs.Tree.{Pipeline, Binding, unbound, declare, assign, declare_pair, Header}
 use Rattle.tmpl_grammar.specs.declared.tree.Control.{Control}
@@ -24,11 +26,11 @@ use Rattle.tmpl_shape.specs.Shape.{Shape, nothings, texts, HasShape, Names}
 use Rattle.tmpl_schema.specs.Safe.{MayEnd}
 use Rattle.tmpl_shape.specs.computed.Means.{Means}
 use Rattle.tmpl_shape.specs.computed.Shapes.{Base, within, fill, Visit, visit_of}
-use Rattle.tmpl_schema.specs.computed.Check.{Known, State, Callee, handed, absent, Table, Checked, last_of, all_within, join_all, if_within, after_both, settle_known, settle_soon, leave_with}
-use Rattle.tmpl_schema.specs.computed.Check.{holds_loop, dot_in, in_body, in_other, after_choice, in_turn, turn_known, after_range, after_call, after_control, after_node, after_nodes}
+use Rattle.tmpl_schema.specs.computed.Check.{Known, State, Callee, handed, absent, Table, Checked, last_of, all_within, join_all, if_within, settle_known, settle_soon, leave_with}
+use Rattle.tmpl_schema.specs.computed.Check.{holds_loop, dot_in, in_body, in_other, after_choice, at_head, in_turn, turn_known, after_range, after_call, after_control, after_node, after_nodes}
 use Rattle.tmpl_schema.specs.declared.flow.FallThrough.{FallThrough}
 use Rattle.tmpl_schema.specs.declared.flow.FallThrough.TheVariants.{Both, Body, Other}
-use Rattle.tmpl_schema.specs.computed.Check.{after_parts, dot_after, dot_by, is_absent, diverges, any_diverges, fall_through}
+use Rattle.tmpl_schema.specs.computed.Check.{after_parts, dot_after, dot_by, is_absent, diverges, any_diverges, fall_through, past_parts}
 use Rattle.tmpl_schema.specs.computed.Check.{Origin, pipeline_origin, pipeline_shape, narrow, bound_shapes, at_start, is_safe}
 use Rattle.tmpl_schema.specs.computed.Safe.{IsAccepted, IsCallee, IsChecked}
 use Rattle.tmpl_loops.specs.Form.{Loop, Turn, stopped, turn_of}
@@ -40,6 +42,43 @@ use Rattle.tmpl_schema.proofs.FieldLemmas.{Gives, Each, IsVisit, Visits, fill-ha
 use Rattle.tmpl_schema.proofs.VariableLemmas.{HasKnown, Fits, place, known-length, last-known, last-last, within-known, if_within-some, joined-left, both-known, bound-known}
 use Rattle.tmpl_schema.proofs.VariableLemmas.{pipeline-gives, pipeline-has, narrow-fits}
 use Rattle.tmpl_schema.proofs.OriginLemmas.{HasOrigin, at-root}
+
+above-zero : (n : ℕ) → not (suc n == 0) ≡ true
+above-zero n = by (suc n == 0) refl
+  where
+    by : (b : Bool) → (suc n == 0) ≡ b → not b ≡ true
+    by true e = let same : suc n ≡ 0 = (Decides-eqb (suc n) 0).0 e in cc
+    by false e = refl
+
+-- what has an element is not empty
+elements-true : (v : Value) (e : Element) (es : List Element) → elements v ≡ Some (e ∷ es) → truth v ≡ true
+elements-true nothing e es is = cc
+elements-true null e es is = cc
+elements-true (boolean b) e es is = cc
+elements-true (number z) e es is = by (int_eq z (pos 0)) refl
+  where
+    by : (b : Bool) → int_eq z (pos 0) ≡ b → not b ≡ true
+    by true q =
+        let none : elements (number (pos 0)) ≡ Some (e ∷ es) =
+        subst (λ (i : ℤ). elements (number i) ≡ Some (e ∷ es)) ((Decides-int_eq z (pos 0)).0 q) is in cc
+    by false q = refl
+elements-true (string t) e es is = cc
+elements-true (sequence no_item) e es is = cc
+elements-true (sequence (item v vs)) e es is = above-zero (length (values_of_items vs))
+elements-true (mapping no_entry) e es is = cc
+elements-true (mapping (entry x v xs)) e es is = above-zero (length (elements_of_entries xs))
+
+visited-true : (b : Binding) (v : Value) (e : Element) (es : List Element) → elements_visited b v ≡ Some (e ∷ es) → truth v ≡ true
+visited-true (declare_pair key name) (number n) e es is = cc
+visited-true (declare_pair key name) nothing e es is = elements-true nothing e es is
+visited-true (declare_pair key name) null e es is = elements-true null e es is
+visited-true (declare_pair key name) (boolean b) e es is = elements-true (boolean b) e es is
+visited-true (declare_pair key name) (string t) e es is = elements-true (string t) e es is
+visited-true (declare_pair key name) (sequence vs) e es is = elements-true (sequence vs) e es is
+visited-true (declare_pair key name) (mapping xs) e es is = elements-true (mapping xs) e es is
+visited-true unbound v e es is = elements-true v e es is
+visited-true (declare name) v e es is = elements-true v e es is
+visited-true (assign name) v e es is = elements-true v e es is
 
 module _ (base : Base) (N : Names) (means : Means base.defs N) (stops : List (List ℕ)) where
   -- ---- calls
@@ -150,6 +189,11 @@ module _ (base : Base) (N : Names) (means : Means base.defs N) (stops : List (Li
   NeverPast Both body other = Unit {0}
   NeverPast Body body other = (d : Value) (r : Run) → (other d r).1 ≡ done → ⊥
   NeverPast Other body other = (d : Value) (r : Run) → (body d r).1 ≡ done → ⊥
+
+  -- .. by the control: a range goes on past its body, however that ends
+  abbrev NeverPastIn : Control → FallThrough → (Value → Next) → (Value → Next) → Type 0
+  NeverPastIn control.Range Other body other = ⊥
+  NeverPastIn c w body other = NeverPast w body other
 
   -- .. so the variables after both are those after the one that was run
   body-known : (w : FallThrough) (rs a b out : Known) → after_parts base w rs a b ≡ Some out → (body other : Value → Next) → NeverPast w body other
@@ -265,16 +309,43 @@ module _ (base : Base) (N : Names) (means : Means base.defs N) (stops : List (Li
         by broke q t more = t
         by continued q t more = more q t
 
+  -- where there is an element, what is known at the head of a range is so
+  abbrev Begins : Header → State → Environment → Option (List Element) → Type 0
+  Begins h k env (Some (e ∷ es)) = (HasKnown base N means top) (at_head base h k) env
+  Begins h k env o = Unit {0}
+
+  begins-so : (h : Header) (k : State) (env : Environment) (v : Value) → (truth v ≡ true → (HasKnown base N means top) (at_head base h k) env)
+      → Begins h k env (elements_visited h.binding v)
+  begins-so h k env v f = by (elements_visited h.binding v) refl
+    where
+      by : (o : Option (List Element)) → elements_visited h.binding v ≡ o → Begins h k env o
+      by None is = tt
+      by (Some []) is = tt
+      by (Some (e ∷ es)) is = f (visited-true h.binding v e es is)
+
   -- a range over elements, in its scope
-  over-ends : (s : Setting) (line : ℕ) (h : Header) (k : State) (loop : Option Known) (f : Option Known → Checked) (g : Checked) (body other : Value → Next) (v : Visit)
-      (out : Known) → after_range base h k f g v ≡ Some out → holds_loop loop k.env ≡ true → ((l : Option Known) → PartHas l (f l) body) → PartHas loop g other
-      → (d : Value) (r : Run) → (Fits base N means top) k d r.env → (made : Bool) (o : Option (List Element)) → (Visits base N means) (Some v) o
+  past-turns : (w : FallThrough) (rs a b out : Known) → after_parts base w rs a b ≡ Some out → (body other : Value → Next) → NeverPastIn control.Range w body other
+      → (env : Environment) → (HasKnown base N means top) (last_of (length rs) a) env → (HasKnown base N means top) out env
+  past-turns Both rs a b out joint body other never = ((both-known base N means top) rs a b out joint).0
+  past-turns Body rs a b out joint body other never =
+      λ env h. let same : last_of (length rs) a ≡ out = cc in subst (λ (x : Known). (HasKnown base N means top) x env) same h
+  past-turns Other rs a b out joint body other never = absurd never
+
+  past-other : (w : FallThrough) (rs a b out : Known) → after_parts base w rs a b ≡ Some out → (body other : Value → Next) → NeverPastIn control.Range w body other
+      → (d : Value) (r : Run) → (other d r).1 ≡ done → (env : Environment) → (HasKnown base N means top) (last_of (length rs) b) env → (HasKnown base N means top) out env
+  past-other Both rs a b out joint body other never d r is = ((both-known base N means top) rs a b out joint).1
+  past-other Body rs a b out joint body other never d r is = absurd (never d r is)
+  past-other Other rs a b out joint body other never d r is = absurd never
+
+  over-ends : (w : FallThrough) (s : Setting) (line : ℕ) (h : Header) (k : State) (loop : Option Known) (f : Option Known → Checked) (g : Checked) (body other : Value → Next) (v : Visit)
+      (out : Known) → after_range base w h k f g v ≡ Some out → holds_loop loop k.env ≡ true → ((l : Option Known) → PartHas l (f l) body) → PartHas loop g other
+      → NeverPastIn control.Range w body other → (d : Value) (r : Run) → (Fits base N means top) k d r.env → (made : Bool) (o : Option (List Element)) → (Visits base N means) (Some v) o → Begins h k r.env o
       → Ends loop out (scoped (length r.env) (over s line h.binding body (other d) o (record r { made_text = made })))
-  over-ends s line h k loop f g body other v out is holds in_f in_g d r fits made o visits =
-      option_and_then_some _ (settle_soon base (turn_known h v f) k.env) out is (λ head ish rest.
-      option_and_then_some (after_both base k.env head) (g k) out rest (λ b isb joint.
-      let joins = (both-known base N means top) k.env head b out joint in
-      by o visits head b isb joins.0 joins.1 (soon-so (turn_known h v f) k.env head ish)))
+  over-ends w s line h k loop f g body other v out is holds in_f in_g never d r fits made o visits begins =
+      option_and_then_some _ (settle_soon base (turn_known h v f) (at_head base h k)) out is (λ head ish rest.
+      option_and_then_some (after_parts base w k.env head) (g k) out rest (λ b isb joint.
+      by o visits begins head b isb (past-turns w k.env head b out joint body other never) (past-other w k.env head b out joint body other never)
+      (soon-so (turn_known h v f) (at_head base h k) head ish)))
     where
       r1 : Run
       r1 = record r { made_text = made }
@@ -286,20 +357,20 @@ module _ (base : Base) (N : Names) (means : Means base.defs N) (stops : List (Li
           (λ e q i kq. in_f (Some head) (in_turn h v head) inner isi e.1 (with_bound h.binding e q) (i.1, (bound-known base N means top) h.binding v.key v.element None e i.0 i.1 tt head q.env kq, tt))
           es r1 each k1
 
-      by : (o : Option (List Element)) → (Visits base N means) (Some v) o → (head b : Known) → g k ≡ Some b
+      by : (o : Option (List Element)) → (Visits base N means) (Some v) o → Begins h k r.env o → (head b : Known) → g k ≡ Some b
           → ((env : Environment) → (HasKnown base N means top) (last_of (length k.env) head) env → (HasKnown base N means top) out env)
-          → ((env : Environment) → (HasKnown base N means top) (last_of (length k.env) b) env → (HasKnown base N means top) out env)
-          → IsHead (turn_known h v f) k.env head
+          → ((d : Value) (r : Run) → (other d r).1 ≡ done → (env : Environment) → (HasKnown base N means top) (last_of (length k.env) b) env → (HasKnown base N means top) out env)
+          → IsHead (turn_known h v f) (at_head base h k) head
           → Ends loop out (scoped (length r.env) (over s line h.binding body (other d) o r1))
-      by None visits head b isb left right set = absurd visits
-      by (Some []) visits head b isb left right set =
-          let x = other d r1 in scope-ends loop k.env b out r.env fits.1 holds x.1 x.0.env (λ e. right) (in_g k b isb d r1 fits)
-      by (Some (e ∷ es)) visits head b isb left right set =
+      by None visits begins head b isb left right set = absurd visits
+      by (Some []) visits begins head b isb left right set =
+          let x = other d r1 in scope-ends loop k.env b out r.env fits.1 holds x.1 x.0.env (right d r1) (in_g k b isb d r1 fits)
+      by (Some (e ∷ es)) visits begins head b isb left right set =
           let x = turns s line h.binding body (e ∷ es) r1 in
           let inner = mapped (f (Some head) (in_turn h v head)) (last_of (length head)) set.1 set.2 in
           scope-ends loop k.env head out r.env fits.1 holds x.1 x.0.env (λ e. left)
           (turning head inner.0 inner.1 (subst (λ (i : Known). all_within base i head ≡ true) (sym inner.2) set.3) (e ∷ es) visits
-          (set.0 r.env fits.1))
+          (set.0 r.env begins))
         where
           mapped : (o : Option Known) (t : Known → Known) (y : Known) → option_map t o ≡ Some y → (x : Known) × (o ≡ Some x) × (t x ≡ y)
           mapped None t y e = cc
@@ -308,7 +379,7 @@ module _ (base : Base) (N : Names) (means : Means base.defs N) (stops : List (Li
   -- a control in its scope
   control-ends : (w : FallThrough) (s : Setting) (line : ℕ) (c : Control) (h : Header) (k : State) (loop : Option Known) (f : Option Known → Checked) (g : Checked) (body other : Value → Next)
       (sh : Shape) (out : Known) → after_control base w c loop h k f g sh ≡ Some out → holds_loop loop k.env ≡ true → ((l : Option Known) → PartHas l (f l) body)
-      → PartHas loop g other → NeverPast w body other → (d : Value) (r : Run) → (Fits base N means top) k d r.env → (v : Value) (made : Bool)
+      → PartHas loop g other → NeverPastIn c w body other → (d : Value) (r : Run) → (Fits base N means top) k d r.env → (v : Value) (made : Bool)
       → (commands_value ((place base N means top) s.rules.missing_key d r.env) h.pipeline None).result ≡ Ok v → HasShape N sh v
       → Ends loop out (scoped (length r.env) (controlled s line c h.binding d body (other d) v (record r { made_text = made })))
   control-ends w s line control.If h k loop f g body other sh out is holds in_f in_g never d r fits v made value has =
@@ -316,9 +387,10 @@ module _ (base : Base) (N : Names) (means : Means base.defs N) (stops : List (Li
   control-ends w s line control.With h k loop f g body other sh out is holds in_f in_g never d r fits v made value has =
       choice-ends w control.With h k loop (f loop) g body other sh out is holds (in_f loop) in_g never s.rules.missing_key d r fits v made value has
   control-ends w s line control.Range h k loop f g body other sh out is holds in_f in_g never d r fits v made value has =
-      option_and_then_some (after_range base h k f g) (visit_of base h.binding sh) out is (λ visit isv rest.
-      over-ends s line h k loop f g body other visit out rest holds in_f in_g d r fits made (elements_visited h.binding v)
-      (subst (λ (o : Option Visit). (Visits base N means) o (elements_visited h.binding v)) isv ((visit-gives base N means) h.binding sh v has)))
+      option_and_then_some (after_range base w h k f g) (visit_of base h.binding sh) out is (λ visit isv rest.
+      over-ends w s line h k loop f g body other visit out rest holds in_f in_g never d r fits made (elements_visited h.binding v)
+      (subst (λ (o : Option Visit). (Visits base N means) o (elements_visited h.binding v)) isv ((visit-gives base N means) h.binding sh v has))
+      (begins-so h k r.env v (λ full. ((narrow-fits base N means top) true s.rules.missing_key h.pipeline k d r.env v fits value full).1)))
 
   mapped_some : {A : Type 0} → (o : Option A) (t : A → Known) (y : Known) → option_map t o ≡ Some y → (x : A) × (o ≡ Some x) × (t x ≡ y)
   mapped_some None t y e = cc
@@ -457,6 +529,32 @@ module _ (base : Base) (N : Names) (means : Means base.defs N) (stops : List (Li
         by false e true f = λ d r. some-past other f d r
         by false e false f = tt
 
+    never-past-in : (c : Control) (body other : Nodes) → NeverPastIn c (past_parts c table body other) (meanings s body) (meanings s other)
+    never-past-in control.If body other = never-past body other
+    never-past-in control.With body other = never-past body other
+    never-past-in control.Range body other = by (any_diverges table other) refl
+      where
+        by : (b : Bool) → any_diverges table other ≡ b → NeverPastIn control.Range (if b then Body else Both) (meanings s body) (meanings s other)
+        by true e = λ d r. some-past other e d r
+        by false e = tt
+
+    -- where a range is done past which a run comes only by its body, dot is what its pipeline shows
+    range-dot : (w : FallThrough) (h : Header) (line : ℕ) (k : State) (body other : Value → Next) → NeverPastIn control.Range w body other
+        → (d : Value) (r : Run) → (Fits base N means top) k d r.env → (v : Value) (made : Bool)
+        → (commands_value ((place base N means top) s.rules.missing_key d r.env) h.pipeline None).result ≡ Ok v
+        → (over s line h.binding body (other d) (elements_visited h.binding v) (record r { made_text = made })).1 ≡ done
+        → HasShape N (dot_by base w h.pipeline k) d
+    range-dot Both h line k body other never d r fits v made value is = fits.0
+    range-dot Other h line k body other never d r fits v made value is = absurd never
+    range-dot Body h line k body other never d r fits v made value is = by (elements_visited h.binding v) refl is
+      where
+        by : (o : Option (List Element)) → elements_visited h.binding v ≡ o
+            → (over s line h.binding body (other d) o (record r { made_text = made })).1 ≡ done → HasShape N (dot_by base Body h.pipeline k) d
+        by None e is = cc
+        by (Some []) e is = absurd (never d (record r { made_text = made }) is)
+        by (Some (x ∷ xs)) e is =
+            ((narrow-fits base N means top) true s.rules.missing_key h.pipeline k d r.env v fits value (visited-true h.binding v x xs e)).0
+
     -- where a choice is done, dot is what its pipeline shows by the part that was run
     choice-dot : (w : FallThrough) (c : Control) (h : Header) (k : State) (body other : Value → Next) → NeverPast w body other
         → (d : Value) (r : Run) → (Fits base N means top) k d r.env → (v : Value) (made : Bool)
@@ -493,7 +591,9 @@ module _ (base : Base) (N : Names) (means : Means base.defs N) (stops : List (Li
         by : (c : Control) (v : Value) (made : Bool) → (commands_value ((place base N means top) s.rules.missing_key d r.env) h.pipeline None).result ≡ Ok v
             → (controlled s line c h.binding d (meanings s body) (meanings s other d) v (record r { made_text = made })).1 ≡ done
             → HasShape N (dot_after base table k (control_node c h body other)) d
-        by control.Range v made value is = fits.0
+        by control.Range v made value is =
+            range-dot (past_parts control.Range table body other) h line k (meanings s body) (meanings s other) (never-past-in control.Range body other)
+            d r fits v made value is
         by control.If v made value is =
             choice-dot (fall_through table body other) control.If h k (meanings s body) (meanings s other) (never-past body other) d r fits v made value is
         by control.With v made value is =
@@ -514,12 +614,12 @@ module _ (base : Base) (N : Names) (means : Means base.defs N) (stops : List (Li
           let f : Option Known → Checked = λ l u. after_nodes base m table l u body in
           let g : Checked = λ u. after_nodes base m table loop u other in
           let p = was_open (holds_loop loop k.env) _ out is in
-          let w = fall_through table body other in
+          let w = past_parts c table body other in
           option_and_then_some (after_control base w c loop h k f g) (pipeline_shape base m k h.pipeline) out p.1 (λ sh issh rest.
           pipeline-all (λ x. Ends loop out (scoped (length r.env) x)) s line h.pipeline d
           (controlled s line c h.binding d (meanings s body) (meanings s other d)) k sh r fits issh
           (control-ends w s line c h k loop f g (meanings s body) (meanings s other) sh out rest p.0 (λ l. nodes-end body l) (nodes-end other loop)
-          (never-past body other) d r fits))
+          (never-past-in c body other) d r fits))
       stepped-ends break_node line loop k out is d r fits = left-ends loop k.env out r.env is fits.1
       stepped-ends continue_node line loop k out is d r fits = left-ends loop k.env out r.env is fits.1
       stepped-ends (template_node name given) line loop k out is d r fits = template-ends line name given loop k out is d r fits

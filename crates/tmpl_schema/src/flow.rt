@@ -5,7 +5,7 @@ ghost use Rattle.std.specs.Prelude.{◌≡◌, IfOk};
 ghost use Rattle.tmpl_grammar.specs.View.{commands_in};
 ghost use Rattle.tmpl_shape.specs.View.{shape_of};
 ghost use Rattle.tmpl_shape.specs.computed.View.{base_of};
-ghost use Rattle.tmpl_schema.specs.computed.Check.{dot_after, dot_by, is_absent, diverges, any_diverges, fall_through};
+ghost use Rattle.tmpl_schema.specs.computed.Check.{dot_after, dot_by, is_absent, diverges, any_diverges, fall_through, past_parts};
 ghost use Rattle.tmpl_schema.specs.computed.View.{state_of, table_of};
 ghost use Rattle.tmpl_syntax.specs.View.{node_of, nodes_in};
 
@@ -18,7 +18,7 @@ use tmpl_grammar::{Command, Control};
 use tmpl_shape::{Base, Shape};
 use tmpl_syntax::{Node, NodeKind};
 
-/// Which of the two parts of an `if` or a `with` fall through: a run may come past them.
+/// Which of the two parts of a control fall through: a run may come past them.
 #[derive(Clone, Copy)]
 pub(crate) enum FallThrough {
     Both,
@@ -77,7 +77,27 @@ pub(crate) fn fall_through(checker: &Checker<'_>, body: &[Node], other: &[Node])
     FallThrough::Both
 }
 
-/// What is known of dot after an `if` or a `with` of which a run may come past these parts.
+/// Which parts of a control a run may come past: a range goes on past a body that diverges.
+pub(crate) fn past_parts(
+    checker: &Checker<'_>,
+    control: Control,
+    body: &[Node],
+    other: &[Node],
+) -> FallThrough
+    ensures { result ≡ past_parts control (table_of checker.now.table.now) (nodes_in body.now) (nodes_in other.now) }
+{
+    match control {
+        Control::If | Control::With => fall_through(checker, body, other),
+        Control::Range => {
+            if any_diverges(checker, other) {
+                return FallThrough::Body;
+            }
+            FallThrough::Both
+        }
+    }
+}
+
+/// What is known of dot after a control of which a run may come past these parts.
 fn dot_by(
     base: &Base<'_>,
     through: FallThrough,
@@ -110,18 +130,20 @@ pub(crate) fn dot_after(
         ≡ dot_after (base_of checker.now.base) (table_of checker.now.table.now) (state_of state.now) (node_of node.now).what) }
 {
     match &node.what {
-        NodeKind::Control(control) => match control.control {
-            Control::Range => Rc::clone(&state.dot),
-            Control::If | Control::With => {
-                let through = fall_through(
-                    checker,
-                    control.body.as_slice(),
-                    control.other.as_slice(),
-                );
-                let commands = control.header.pipeline.commands.as_slice();
-                dot_by(&checker.base, through, commands, state)
+        NodeKind::Control(control) => {
+            let (body, other) = (control.body.as_slice(), control.other.as_slice());
+            let commands = control.header.pipeline.commands.as_slice();
+            match control.control {
+                Control::Range => {
+                    let through = past_parts(checker, Control::Range, body, other);
+                    dot_by(&checker.base, through, commands, state)
+                }
+                Control::If | Control::With => {
+                    let through = fall_through(checker, body, other);
+                    dot_by(&checker.base, through, commands, state)
+                }
             }
-        },
+        }
         NodeKind::Text(_) | NodeKind::Action(_) | NodeKind::Break => Rc::clone(&state.dot),
         NodeKind::Continue | NodeKind::Template(_, _) => Rc::clone(&state.dot),
     }

@@ -7,17 +7,16 @@ ghost use Rattle.tmpl_grammar.specs.View.{header_of, pipeline_of};
 ghost use Rattle.tmpl_shape.specs.Shape.{nothings};
 ghost use Rattle.tmpl_shape.specs.View.{shape_of};
 ghost use Rattle.tmpl_shape.specs.computed.View.{base_of, visit_seen};
-ghost use Rattle.tmpl_schema.specs.computed.Check.{after_node, after_nodes, in_body, in_other, in_turn, leave_with};
+ghost use Rattle.tmpl_schema.specs.computed.Check.{after_node, after_nodes, at_head, in_body, in_other, in_turn, leave_with};
 ghost use Rattle.tmpl_schema.specs.computed.Check.{pipeline_shape, settle_known, settle_soon};
 ghost use Rattle.tmpl_schema.specs.computed.View.{after_action, after_choice_by, after_range_by, known_of, known_seen, ranged_by, state_of, table_of, turn_by};
 ghost use Rattle.tmpl_syntax.specs.Tree.{template_node};
 ghost use Rattle.tmpl_syntax.specs.View.{control_of, node_of, nodes_in};
 
 use crate::failure::{Failure, at_node};
-use crate::flow::{dot_after, fall_through};
+use crate::flow::{dot_after, fall_through, past_parts};
 use crate::known::{
-    Known, after_both, after_parts, all_within, bind, copy_known, holds_loop, join_all, leave_with,
-    oldest,
+    Known, after_parts, all_within, bind, copy_known, holds_loop, join_all, leave_with, oldest,
 };
 use crate::pipeline::pipeline_shape;
 use crate::state::{State, copy_state, narrow, pipeline_origin};
@@ -104,6 +103,14 @@ pub(crate) fn in_other(
     )?;
     let State { dot, origin, .. } = before;
     Ok(State { dot, origin, known })
+}
+
+/// What is known where the first turn of a range begins: what it ranges over is not empty.
+pub(crate) fn at_head(base: &Base<'_>, header: &Header, state: &State) -> Result<Known, AllocError>
+    ensures { IfOk result (λ ks. known_of ks ≡ at_head (base_of base.now) (header_of header.now) (state_of state.now)) }
+{
+    let State { known, .. } = narrow(base, true, header.pipeline.commands.as_slice(), state)?;
+    Ok(known)
 }
 
 /// Where a turn of a range begins.
@@ -325,7 +332,6 @@ pub(crate) fn settle_soon(
 
 /// After a range that visits these.
 #[cycle(node)]
-#[tactic(auto, using(crate::proofs::ControlLemmas::ranges))]
 fn after_range(
     checker: &Checker<'_>,
     head: Option<&Known>,
@@ -338,10 +344,12 @@ fn after_range(
         (state_of state.now) (nodes_in parts.now.body.now) (nodes_in parts.now.other.now) (visit_seen visit.now)
         ≡ Some (known_of ks)) }
 {
-    let settled_head = settle_soon(checker, &state.known, parts.header, visit, parts.body)?;
+    let start = at_head(&checker.base, parts.header, state)?;
+    let settled_head = settle_soon(checker, &start, parts.header, visit, parts.body)?;
     let outside = copy_state(checker.base.alloc, state)?;
     let other = after_nodes(checker, head, outside, parts.other)?;
-    Ok(after_both(&checker.base, &state.known, &settled_head, &other)?)
+    let through = past_parts(checker, Control::Range, parts.body, parts.other);
+    Ok(after_parts(&checker.base, through, &state.known, &settled_head, &other)?)
 }
 
 /// After a range over values of this shape.

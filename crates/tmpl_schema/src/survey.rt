@@ -5,10 +5,10 @@
 
 use crate::check::{Refusal, is_stop, mode_for};
 use crate::failure::{Doubt, Failure, Position};
-use crate::flow::{FallThrough, dot_after, fall_through};
+use crate::flow::{FallThrough, dot_after, fall_through, past_parts};
 use crate::known::{Known, after_parts, bind, copy_known};
 use crate::loops::check_loop;
-use crate::node::{Checker, after_node, in_body, in_other, in_turn, settle_soon};
+use crate::node::{Checker, after_node, at_head, in_body, in_other, in_turn, settle_soon};
 use crate::pipeline::pipeline_shape;
 use crate::room::first_crowded;
 use crate::state::{State, at_start, copy_state};
@@ -299,41 +299,24 @@ fn survey_range(
             }
         }
     };
-    let known = match settle_soon(
-        checker,
-        &state.known,
-        header,
-        &visit,
-        control.body.as_slice(),
-    ) {
+    let start = at_head(&checker.base, header, state)?;
+    let body = control.body.as_slice();
+    let known = match settle_soon(checker, &start, header, &visit, body) {
         Ok(known) => known,
         Err(failure) => {
             let before = found.doubts.len().saturating_add(found.wanted.len());
-            let inside = in_turn(&checker.base, header, &visit, &state.known)?;
-            survey_nodes(
-                walk,
-                Some(&state.known),
-                inside,
-                control.body.as_slice(),
-                found,
-            )?;
+            let inside = in_turn(&checker.base, header, &visit, &start)?;
+            survey_nodes(walk, Some(&start), inside, body, found)?;
             if found.doubts.len().saturating_add(found.wanted.len()) == before {
                 found.add(walk, failure.into(), position)?;
             }
-            copy_known(&state.known)?
+            start
         }
     };
     let outside = copy_state(checker.base.alloc, state)?;
     let other = survey_nodes(walk, head, outside, control.other.as_slice(), found)?;
-    survey_end(
-        walk,
-        FallThrough::Both,
-        state,
-        &known,
-        &other,
-        position,
-        found,
-    )
+    let through = past_parts(checker, Control::Range, body, control.other.as_slice());
+    survey_end(walk, through, state, &known, &other, position, found)
 }
 
 /// Whether a template is a copy loop over texts; of one that calls what is neither there nor a stop, that is reported.

@@ -369,6 +369,11 @@ any_diverges table (tree.then line n ns) = diverges table n || any_diverges tabl
 abbrev pub fall_through : Table → Nodes → Nodes → FallThrough
 fall_through table body other = if any_diverges table body then Other else if any_diverges table other then Body else Both
 
+-- of which parts of a control a run may come past: a range goes on past a body that diverges
+abbrev pub past_parts : Control → Table → Nodes → Nodes → FallThrough
+past_parts control.Range table body other = if any_diverges table other then Body else Both
+past_parts c table body other = fall_through table body other
+
 -- where a turn of a range begins
 abbrev pub in_turn : Header → Visit → Known → State
 in_turn h v ks = record { dot = v.element; from = None; env = bound_shapes h.binding v.key v.element None ks }
@@ -642,18 +647,21 @@ module _ (base : Base) where
 
   -- .. after a node
   abbrev pub dot_after : Table → State → NodeKind → Shape
-  dot_after table k (control_node control.Range h body other) = k.dot
-  dot_after table k (control_node c h body other) = dot_by (fall_through table body other) h.pipeline k
+  dot_after table k (control_node c h body other) = dot_by (past_parts c table body other) h.pipeline k
   dot_after table k n = k.dot
 
-  abbrev pub after_range : Header → State → (Option Known → Checked) → Checked → Visit → Option Known
-  after_range h k body other v =
-      option_and_then (λ head. option_and_then (after_both k.env head) (other k)) (settle_soon (turn_known h v body) k.env)
+  -- where the first turn of a range begins: what it ranges over is not empty
+  abbrev pub at_head : Header → State → Known
+  at_head h k = (narrow true h.pipeline k).env
+
+  abbrev pub after_range : FallThrough → Header → State → (Option Known → Checked) → Checked → Visit → Option Known
+  after_range w h k body other v =
+      option_and_then (λ head. option_and_then (after_parts w k.env head) (other k)) (settle_soon (turn_known h v body) (at_head h k))
 
   abbrev pub after_control :
       FallThrough → Control → Option Known → Header → State → (Option Known → Checked) → Checked → Shape → Option Known
   after_control w control.Range loop h k body other s =
-      option_and_then (after_range h k body other) (visit_of base h.binding s)
+      option_and_then (after_range w h k body other) (visit_of base h.binding s)
   after_control w c loop h k body other s = after_choice w c h k (body loop) other s
 
   -- where a template that is known is handed a value of the shape
@@ -669,7 +677,7 @@ module _ (base : Base) where
         option_map (λ s. bound_shapes h.binding nothings s (pipeline_origin k h.pipeline) k.env) (pipeline_shape m k h.pipeline)
     after_node m table loop k (control_node c h body other) =
         if holds_loop loop k.env then option_and_then
-        (after_control (fall_through table body other) c loop h k (λ l u. after_nodes m table l u body) (λ u. after_nodes m table loop u other))
+        (after_control (past_parts c table body other) c loop h k (λ l u. after_nodes m table l u body) (λ u. after_nodes m table loop u other))
         (pipeline_shape m k h.pipeline) else None
     after_node m table loop k break_node = leave_with k.env loop
     after_node m table loop k continue_node = leave_with k.env loop

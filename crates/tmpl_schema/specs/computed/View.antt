@@ -16,10 +16,11 @@ use Rattle.tmpl_schema.specs.declared.facts.Head.TheVariants as head
 use Rattle.tmpl_schema.specs.declared.facts.Place as held_place
 use Rattle.tmpl_schema.specs.computed.Check.{Fact, Head, calls, is_nil, is_value, Place, texts_in}
 use Rattle.tmpl_schema.specs.computed.Check.{Known, Origin, State, Callee, Table, handed, absent, operand_shapes, after_choice, after_nodes}
-use Rattle.tmpl_schema.specs.computed.Check.{after_range, fall_through, bound_shapes, call_state, command_call, counts_in, narrow_all, narrow_as, piped_fact, pipeline_origin, pipeline_shape, turn_known}
+use Rattle.tmpl_schema.specs.computed.Check.{after_range, fall_through, past_parts, bound_shapes, call_state, command_call, counts_in, narrow_all, narrow_as, piped_fact, pipeline_origin, pipeline_shape, turn_known}
 use Rattle.tmpl_grammar.specs.Tree.{Header}
 use Rattle.tmpl_syntax.specs.Tree.{Nodes}
 use Rattle.tmpl_grammar.specs.declared.tree.Control.{Control}
+use Rattle.tmpl_grammar.specs.declared.tree.Control.TheVariants as control
 use Rattle.std.specs.Str.{bytes_eq}
 use Rattle.tmpl_schema.specs.declared.table.Callee as held_callee
 use Rattle.tmpl_schema.specs.declared.table.Callee.TheVariants as callee_kind
@@ -118,7 +119,7 @@ after_choice_by base m table loop c h k body other s =
 abbrev pub after_range_by :
     computed.Base → MissingKey → Table → Option Known → Header → State → Nodes → Nodes → computed.Visit → Option Known
 after_range_by base m table loop h k body other v =
-    after_range base h k (λ l u. after_nodes base m table l u body) (λ u. after_nodes base m table loop u other) v
+    after_range base (past_parts control.Range table body other) h k (λ l u. after_nodes base m table l u body) (λ u. after_nodes base m table loop u other) v
 
 abbrev pub ranged_by :
     computed.Base → MissingKey → Table → Option Known → Header → State → Nodes → Nodes → spec.Shape → Option Known

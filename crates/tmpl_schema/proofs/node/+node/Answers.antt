@@ -5,7 +5,8 @@ use Rattle.tmpl_syntax.specs.Tree.{control_node}
 use Rattle.tmpl_syntax.specs.View.{control_of, nodes_in}
 use Rattle.tmpl_syntax.specs.declared.tree.ControlNode.{out-ControlNode}
 use Rattle.tmpl_shape.specs.View.{shape_of}
-use Rattle.tmpl_schema.specs.computed.Check.{Known, State, after_nodes, holds_loop, pipeline_shape, settle_known, settle_soon}
+use Rattle.tmpl_schema.specs.declared.flow.FallThrough.{FallThrough}
+use Rattle.tmpl_schema.specs.computed.Check.{Known, State, after_nodes, after_parts, holds_loop, pipeline_shape, settle_known, settle_soon}
 use Rattle.tmpl_shape.specs.computed.View.{base_of, visit_seen}
 use Rattle.tmpl_schema.specs.computed.View.{known_of, known_seen, state_of, table_of, turn_by}
 use Rattle.tmpl_schema.proofs.ControlLemmas.{control_seen, range-control, range-is}
@@ -32,8 +33,10 @@ after_range-returns t c =
     let h = header_of c.args.parts.now.header.now in
     let two : after_nodes base m table loop k other ≡ Some (known_of c.in_ok-other.other) =
     subst (λ (i : State). after_nodes base m table loop i other ≡ Some (known_of c.in_ok-other.other)) c.in_ok-outside.ensures c.in_ok-other.ensures in
-    range-is base m table loop h k body other (visit_seen c.args.visit.now) (known_of c.in_ok-settled_head.settled_head) (known_of c.in_ok-other.other) c.in_ok-settled_head.ensures two
-    ∙ c.in_ok-after_both.ensures
+    range-is base m table loop h k body other (visit_seen c.args.visit.now) (known_of c.in_ok-start.start) (known_of c.in_ok-settled_head.settled_head)
+    (known_of c.in_ok-other.other) c.in_ok-start.ensures c.in_ok-settled_head.ensures two
+    ∙ subst (λ (w : FallThrough). after_parts base w k.env (known_of c.in_ok-settled_head.settled_head) (known_of c.in_ok-other.other)
+    ≡ Some (known_of c.in_ok-after_parts.field-0)) c.past_parts-through.ensures c.in_ok-after_parts.ensures
 
 pub after_control-returns : goal.after_control-returns
 after_control-returns t c =
