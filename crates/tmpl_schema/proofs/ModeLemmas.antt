@@ -34,7 +34,7 @@ use Rattle.tmpl_schema.specs.computed.Check.{sliced_shape, printed_shape, comman
 use Rattle.tmpl_schema.specs.computed.Check.{all_within, join_all, settle_known, settle_soon}
 use Rattle.tmpl_schema.specs.computed.Check.{leave_with, holds_loop, turn_known, in_body, in_other, at_start, is_safe}
 use Rattle.tmpl_schema.specs.computed.Check.{at_head, after_choice, after_range, after_control, after_call}
-use Rattle.tmpl_schema.specs.computed.Check.{after_node, after_nodes, after_parts, dot_after, fall_through}
+use Rattle.tmpl_schema.specs.computed.Check.{after_node, after_nodes, after_parts, dot_after, past_parts}
 use Rattle.tmpl_schema.specs.declared.flow.FallThrough.{FallThrough}
 use Rattle.tmpl_schema.specs.computed.Safe.{IsAccepted, IsCallee, IsChecked, mode_for}
 
@@ -243,7 +243,7 @@ module _ (base : Base) (m : MissingKey) (table : Table) where
     node-keeps (control_node c h body other) loop k =
         if-keeps (holds_loop loop k.env) _ _ None None
         (then-keeps _ _ _ _
-        (control-keeps base h k (fall_through table body other) c loop _ _ _ _ (λ l u. nodes-keep body l u) (λ u. nodes-keep other loop u))
+        (control-keeps base h k (past_parts c table body other) c loop _ _ _ _ (λ l u. nodes-keep body l u) (λ u. nodes-keep other loop u))
         (pipeline-keeps base m h.pipeline k)) tt
     node-keeps break_node loop k = keeps-same (leave_with base k.env loop)
     node-keeps continue_node loop k = keeps-same (leave_with base k.env loop)
