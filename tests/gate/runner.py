@@ -139,7 +139,7 @@ class Beside:
     def begin(self, name):
         """Whether a crate is begun now."""
         with self.lock:
-            can_begin = not self.has_ended and free_memory() >= ROOM
+            can_begin = not self.has_ended and harness.free_memory() >= ROOM
             self.begun += [name] * can_begin
             return can_begin
 
@@ -163,11 +163,6 @@ class Beside:
     def came(self):
         """What came of each crate that was begun."""
         return [came for it in self.futures for came in it.result()]
-
-
-def free_memory():
-    """The memory in bytes that processes may still take."""
-    return 1024 * int(re.search(r"^MemAvailable: *(\d+) kB$", programs.read("/proc/meminfo"), re.MULTILINE)[1])
 
 
 def prove(progress, beside):
@@ -218,7 +213,9 @@ class Lanes:
             with self.by_make:
                 came = run(name, self.environment, lines.append)
         else:
-            came = run(name, self.environment, lines.append, self.words.get(name))
+            # the longest test has all processors, so that it does not go on by itself
+            environment = {**self.environment, "PROCESSES": str(harness.processes())} if name == "tried" else self.environment
+            came = run(name, environment, lines.append, self.words.get(name))
         with self.shown:
             for tool in dict.fromkeys(tools.missing_in(lines)):
                 self.missing.setdefault(tool, []).append(name)

@@ -7,6 +7,7 @@ calls one which is refused is not judged, so the bodies that are left are put in
 until no check refuses any. `make edits` tries all of edits/.
 
     tried.py [CRATE..]     tries those of all crates, or of these; RT_JOBS=N takes N crates side by side, else as many as there are processors
+                           and memory for
     tried.py --proved CRATE
                            tries those of a crate that `rt ci` has just proved, while it proves others"""
 import os
@@ -49,6 +50,7 @@ TRIED = {
     "tmpl_schema": "a_join_that_keeps_one_side a_part_that_may_end_taken_for_the_other one_part_taken_for_both",
     "tmpl_shape": "each_field_required a_field_required_by_neither a_number_compared_with_a_text a_string_taken_for_none_of_its_constants",
 }
+MEMORY = 4_000_000_000  # bytes, more than a check of some functions takes
 
 
 def wanted():
@@ -97,7 +99,8 @@ def complaint(name, is_proved):
 
 def main(words):
     is_proved, crates = "--proved" in words, [it for it in words if it != "--proved"] or wanted()
-    with ThreadPoolExecutor(int(os.environ.get("RT_JOBS") or harness.processes())) as pool:
+    fitting = max(1, min(harness.processes(), harness.free_memory() // MEMORY))
+    with ThreadPoolExecutor(int(os.environ.get("RT_JOBS") or fitting)) as pool:
         told = dict(zip(crates, pool.map(complaint, crates, [is_proved] * len(crates))))
     failed = {name: why for name, why in told.items() if why}
     print(*[f"WRONG BODIES of {name}: {why}" for name, why in failed.items()], sep="\n", end="\n" if failed else "")

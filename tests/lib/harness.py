@@ -4,6 +4,7 @@ import json
 import multiprocessing
 import multiprocessing.util
 import os
+import re
 import shutil
 import signal
 import socket
@@ -132,6 +133,12 @@ def fill(pipe, what):
 def processes():
     """How many processes may run side by side."""
     return int(os.environ.get("PROCESSES") or len(os.sched_getaffinity(0)))
+
+
+def free_memory():
+    """The memory in bytes that processes may still take."""
+    with open("/proc/meminfo", encoding="utf-8") as it:
+        return 1024 * int(re.search(r"^MemAvailable: *(\d+) kB$", it.read(), re.MULTILINE)[1])
 
 
 def read_rows():
