@@ -74,6 +74,11 @@ CRATE = re.compile(r"rt: (\w+)(?: proved| is kept)\b")  # a line of `rt ci` that
 SLOWEST = 5
 ROOM = 6_000_000_000  # bytes that are free when a check begins beside the proofs
 YIELDING = ("nice", "-n", "19")
+# what two runs of `rt ci` prove side by side, before one proves all: each reckons with the memory that is free when it begins. One by itself
+# reckons a check at twice what it takes, and leaves processors idle
+SIDES = ("tmpl_json_schema", "tmpl_problems tmpl_formats tmpl_schema tmpl")
+ROOM_FOR_SIDES = 20_000_000_000  # bytes; together they take up to 16
+PROCESSORS_FOR_SIDES = 4
 
 
 def command(name, more=None):
@@ -126,10 +131,10 @@ def run(name, environment, see, more=None, before=()):
 
 
 class Beside:
-    """Tries wrong bodies of crates that are proved while `rt ci` proves others: one crate after the other, and where memory is free."""
+    """Tries wrong bodies of crates that are proved while `rt ci` proves others: by half of the processors, and where memory is free."""
 
     def __init__(self, is_asked):
-        self.is_asked, self.pool, self.lock = is_asked, ThreadPoolExecutor(1), threading.Lock()
+        self.is_asked, self.pool, self.lock = is_asked, ThreadPoolExecutor(max(1, harness.processes() // 2)), threading.Lock()
         self.futures, self.begun, self.has_ended = [], [], False
 
     def add(self, name):
@@ -170,16 +175,31 @@ def prove(progress, beside):
     begun = time.time()
 
     def see(line):
-        print(line, flush=True)
+        print(f"{line}\n", end="", flush=True)
         if found := CRATE.match(line):
             progress.end_crate(found[1])
-            beside.add(found[1])
+            return found[1]
 
-    came = run(PROOFS, os.environ, see)
+    def see_last(line):
+        if crate := see(line):
+            beside.add(crate)
+
+    used = prove_sides(see)
+    passed, failed, seconds = run(PROOFS, os.environ, see_last)
     progress.crates.clear()
-    if not came[1]:
+    if not failed:
         proved.mark(begun)
-    return came
+    return passed, failed, used + seconds
+
+
+def prove_sides(see):
+    """Has two runs of `rt ci` prove what stands below the report, where there are processors and memory for both; the seconds of processors that they
+    took. What they prove is kept for the run that proves all, which proves once more what failed. The toolchain takes no names where CI is set."""
+    fits = harness.processes() >= PROCESSORS_FOR_SIDES and harness.free_memory() >= ROOM_FOR_SIDES
+    if not fits or "RT_JOBS" in os.environ or os.environ.get("CI") == "true":
+        return 0
+    with ThreadPoolExecutor(len(SIDES)) as pool:
+        return sum(seconds for _, _, seconds in pool.map(lambda names: run(PROOFS, os.environ, see, names), SIDES))
 
 
 class Lanes:

@@ -5,7 +5,7 @@ import re
 TYPES = {"null": type(None), "boolean": bool, "integer": int, "number": int, "string": str, "array": list, "object": dict}
 NARROWING = ("minimum", "maximum", "exclusiveMinimum", "exclusiveMaximum", "minLength", "minItems")
 FIELDS = ("a", "b", "c")
-TAGS = ["x", "y", "z"]
+TAGS = [["x", "y", "z"], ["x", "y", "z"], [0, 1, 2], [True, False, 2]]  # of which one list tells the maps of a union apart
 STOP = "stop: no more"  # the name of a template that is not there, whose call is meant to end the run
 FORMS = ("%v", "%v", "%v", "%s", "%s", "%d", "%d", "%q", "%x", "%X", "%o", "%b", "%c", "%t", "%5d", "%05d", "%+d", "% d", "%-6s", "%6s", "%.1s", "%7v", "%-v", "%+v", "%%")
 HEAD = "https://json-schema.org/draft/2020-12/schema"
@@ -143,10 +143,13 @@ def drawn_schema(draw, depth):
 
 
 def drawn_union(draw, depth):
-    """A schema of maps that a string tells apart, mostly."""
+    """A schema of maps that a constant tells apart, mostly."""
+    tags = draw.choice(TAGS)
+
     def tag():
-        return draw.choice([{"const": draw.choice(TAGS)}, {"const": draw.choice(TAGS)}, {"enum": draw.sample(TAGS, 2)}, {"enum": [draw.choice(TAGS), None, 1]},
-                            {"type": "string"}, {"type": ["string", "null"], "enum": [*TAGS, None]}, {"anyOf": [{"const": "x"}, {"const": "y"}]}])
+        return draw.choice([{"const": draw.choice(tags)}, {"const": draw.choice(tags)}, {"enum": draw.sample(tags, 2)}, {"enum": [draw.choice(tags), None, 1]},
+                            {"type": "string"}, {"type": "integer"}, {"type": ["string", "boolean", "null"], "enum": [*tags, None]},
+                            {"anyOf": [{"const": tags[0]}, {"const": tags[1]}]}])
     maps = [{"type": "object", "properties": {"a": tag(), **{name: drawn_schema(draw, draw.randrange(min(2, depth))) for name in draw.sample(["b", "c"], draw.randrange(1, 3))}},
              "additionalProperties": False} for _ in range(draw.randrange(2, 5))]
     for one in maps:
@@ -398,8 +401,8 @@ def drawn_tagged(draw, scope):
 
     def test(start):
         tag = draw.choice([f"{start}.a", f"{start}.a", f'(index {start or "."} "a")'])
-        one, other = draw.sample(['"x"', '"y"', '"z"'], 2)
-        return draw.choice([f"eq {tag} {one}", f"eq {tag} {one}", f"ne {tag} {one}", f"eq {tag} {one} {other}", f"not (eq {tag} {one})", f"eq {one} {tag}",
+        one, other = map(json.dumps, draw.sample(draw.choice(TAGS), 2))
+        return draw.choice([tag, f"not {tag}", f"eq {tag} {one}", f"eq {tag} {one}", f"ne {tag} {one}", f"eq {tag} {one} {other}", f"not (eq {tag} {one})", f"eq {one} {tag}",
                             f"and {start or '.'} (eq {tag} {one})", f"or (eq {tag} {one}) (eq {tag} {other})", f"and (ne {tag} {one}) (ne {tag} {other})",
                             f"eq {tag} {start}.b", f"eq {tag} {one} {start}.b", f"eq {tag} nil"])
 

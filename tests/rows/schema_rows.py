@@ -48,6 +48,10 @@ DRAFT_2019 = {"$schema": "https://json-schema.org/draft/2019-09/schema"}
 TCP, UDP, UNIX = of({"kind": {"const": "tcp"}, "port": WHOLE}), of({"kind": {"const": "udp"}, "port": WHOLE}), of({"kind": {"const": "unix"}, "path": TEXT})
 NET, PIPE = of({"kind": {"enum": ["tcp", "udp"]}, "port": WHOLE}), of({"kind": {"enum": ["pipe", "fifo"]}, "name": TEXT})
 UNION = {"oneOf": [TCP, UNIX]}
+# .. an integer, and a boolean
+FIRST, SECOND = of({"version": {"const": 1}, "port": WHOLE}), of({"version": {"const": 2}, "path": TEXT})
+VERSIONS = {"oneOf": [FIRST, SECOND]}
+SWITCH = {"oneOf": [of({"on": {"const": True}, "cert": TEXT}), of({"on": {"const": False}})]}
 # maps that may have more members
 OPEN = {"additionalProperties": True}
 OPEN_TCP, OPEN_UNIX = {**TCP, **OPEN}, {**UNIX, **OPEN}
@@ -114,6 +118,16 @@ ACCEPTED = [
     ("index of an item of a variable tells it", of({"l": {"type": "array", "items": of({"a": of({"b": TEXT}, [])})}}), '{{range $e := .l}}{{if index $e.a "b"}}{{len $e.a.b}}{{end}}{{end}}', []),
     ("the length of an entry of a field", of({"a": of({"l": ITEMS})}), '{{if gt (len (index .a "l")) 1}}{{index .a.l 1}}{{end}}', []),
     ("a string before its tag", of({"u": UNION}), '{{if eq "tcp" .u.kind}}{{.u.port}}{{else}}{{.u.path}}{{end}}{{with .u}}{{if ne "tcp" .kind}}{{.path}}{{end}}{{end}}', []),
+    ("a union by an integer", of({"u": VERSIONS}), '{{if eq .u.version 1}}{{lt .u.port 3}}{{else}}{{len .u.path}}{{end}}{{if ne .u.version 1}}{{len .u.path}}{{else}}{{.u.port}}{{end}}', []),
+    ("several integers", of({"u": {"oneOf": [of({"version": {"enum": [1, 2]}, "port": WHOLE}), of({"version": {"const": 3}, "path": TEXT})]}}),
+     '{{if eq .u.version 1 2}}{{.u.port}}{{else}}{{.u.path}}{{end}}{{if eq .u.version 3}}{{.u.path}}{{end}}', []),
+    ("a union by a boolean", of({"u": SWITCH}), "{{if eq .u.on true}}{{len .u.cert}}{{end}}{{if ne .u.on false}}{{len .u.cert}}{{end}}{{if eq .u.on false}}{{else}}{{.u.cert}}{{end}}", []),
+    ("a union by a boolean that is true", of({"u": SWITCH}), "{{if .u.on}}{{len .u.cert}}{{end}}{{with .u}}{{if .on}}{{.cert}}{{end}}{{end}}{{if not .u.on}}{{else}}{{.u.cert}}{{end}}", []),
+    ("a union by a number that is not 0", of({"u": {"oneOf": [of({"n": {"const": 0}}), of({"n": {"const": 7}, "path": TEXT})]}}), "{{if .u.n}}{{len .u.path}}{{end}}", []),
+    ("a union by a string that is not empty", of({"u": {"oneOf": [of({"n": {"const": ""}}), of({"n": {"const": "x"}, "path": TEXT})]}}), "{{if .u.n}}{{len .u.path}}{{end}}", []),
+    ("constants that are integers", of({"n": {"enum": [2, 3]}, "l": {"type": "array", "items": {"$ref": "#/$defs/n"}}}, **{"$defs": {"n": {"enum": [2, 3, 5]}}}),
+     "{{range .n}}{{end}}{{range $i := .n}}{{lt $i 3}}{{end}}{{range .l}}{{lt . 3}}{{range .}}{{lt . 3}}{{end}}{{end}}", []),
+    ("constants that are booleans", of({"b": {"const": True}, "l": {"type": "array", "items": {"enum": [True, False]}}}), "{{eq .b true}}{{range .l}}{{eq . false}}{{if .}}{{.}}{{end}}{{end}}", []),
     ("what a tag of a variable is not", of({"us": {"type": "array", "items": UNION}}), '{{range $u := .us}}{{if eq $u.kind "tcp"}}{{$u.port}}{{else}}{{$u.path}}{{end}}{{if ne $u.kind "tcp"}}{{$u.path}}{{else}}{{$u.port}}{{end}}{{end}}', []),
     ("tags of a variable one after the other", of({"us": {"type": "array", "items": {"oneOf": [TCP, UNIX, PIPE]}}}),
      '{{range $u := .us}}{{if eq $u.kind "tcp"}}{{$u.port}}{{else if eq $u.kind "unix"}}{{$u.path}}{{else}}{{$u.name}}{{end}}{{end}}', []),
@@ -329,6 +343,11 @@ REFUSED = [
      "1:70: error: may fail: .b of nothing, which may come here and has no fields"),
     ("the other alternative of a union", of({"u": UNION}), '{{if eq .u.kind "tcp"}}{{.u.path}}{{end}}', [], "1:24: error: may fail: .path may be absent: not in \"properties\" of s:1"),
     ("a union where its tag is not this", of({"u": UNION}), '{{if eq .u.kind "tcp"}}{{else}}{{.u.port}}{{end}}', [], "1:32: error: may fail: .port may be absent: not in \"properties\" of s:1"),
+    ("a union where its integer is not this", of({"u": VERSIONS}), '{{if eq .u.version 1}}{{else}}{{.u.port}}{{end}}', [], "1:31: error: may fail: .port may be absent: not in \"properties\" of s:1"),
+    ("a union where its boolean is false", of({"u": SWITCH}), '{{if eq .u.on false}}{{.u.cert}}{{end}}', [], "1:22: error: may fail: .cert may be absent: not in \"properties\" of s:1"),
+    ("a union where its boolean may be true", of({"u": SWITCH}), '{{if .u.on}}{{else}}{{.u.cert}}{{end}}', [], "1:21: error: may fail: .cert may be absent: not in \"properties\" of s:1"),
+    ("an integer that is written as a fraction", of({"u": {"oneOf": [of({"version": {"const": 2.0}, "port": WHOLE}), SECOND]}}), '{{if eq .u.version 2}}{{.u.path}}{{end}}', [],
+     "1:23: error: may fail: .path may be absent: not in \"properties\" of s:1"),
     ("a union before its tag is asked", of({"u": UNION}), '{{.u.port}}{{if eq .u.kind "tcp"}}{{end}}', [], "1:1: error: may fail: .port may be absent: not in \"properties\" of s:1"),
     ("one of two alternatives that are left", of({"u": {"oneOf": [TCP, UNIX, PIPE]}}), '{{if eq .u.kind "tcp"}}{{else}}{{.u.path}}{{end}}', [], "1:32: error: may fail: .path may be absent: the schema does not require it"),
     ("a tag that is any string", of({"u": {"oneOf": [TCP, of({"kind": TEXT, "path": TEXT})]}}), '{{if eq .u.kind "tcp"}}{{.u.port}}{{end}}', [], "1:24: error: may fail: .port may be absent: not in \"properties\" of s:1"),

@@ -29,12 +29,12 @@ use Rattle.tmpl_json_schema.specs.declared.draft.Draft.{Draft}
 use Rattle.tmpl_json_schema.specs.declared.draft.Draft.TheVariants.{Draft2020}
 use Rattle.tmpl_json_schema.specs.declared.kinds.Kinds.{Kinds}
 use Rattle.tmpl_json_schema.specs.computed.Reading.{every_kind, both_kinds, types_in, const_in, enum_in, kinds_in, type_kinds, enum_kinds, constant_kind}
-use Rattle.tmpl_json_schema.specs.computed.Reading.{alternatives_in, by_kinds, count_of, least_in, or_else, rest_of, shape_of_rest, is_listed, texts_in}
+use Rattle.tmpl_json_schema.specs.computed.Reading.{alternatives_in, by_kinds, count_of, least_in, or_else, rest_of, shape_of_rest, is_listed, leaves_in}
 use Rattle.tmpl_json_schema.specs.computed.Reading.{if_listed, is_required, is_unread, listed_in, required_fields, required_in}
 use Rattle.tmpl_json_schema.specs.computed.Fitting.{Adds, Additional, AreShared, At, Conforms, Context, Has, HasFields, HasKind, IsBeside, IsDefinition, IsReadOf, IsSound, ItemOf, Keeps, NamesIn}
 use Rattle.tmpl_json_schema.specs.computed.Fitting.{Plain, PlainOf, Referred, Whole, WithEachOf, WithEachProperty, WithProperties}
 use Rattle.tmpl_json_schema.specs.computed.Defined.{AreLookedUp, are_defined}
-use Rattle.tmpl_json_schema.proofs.KindLemmas.{HasParts, is-some, not-some, both-kinds, type_kinds-has, constant_kind-has, enum_kinds-has, texts-has, by_kinds-has}
+use Rattle.tmpl_json_schema.proofs.KindLemmas.{HasParts, is-some, not-some, both-kinds, type_kinds-has, constant_kind-has, enum_kinds-has, leaves_in-has, by_kinds-has}
 use Rattle.tmpl_json_schema.proofs.FieldLemmas.{rest-field, rest-shape, rest-required, required-fields, required-has, required-key-has}
 
 -- ---- kinds
@@ -199,11 +199,13 @@ items-of : (C : Data → Value → Type 0) (o : Option Data) (vs : value.Items) 
 items-of C None vs h = any-items vs
 items-of C (Some d) vs h = h
 
-pub content-has : (c : Context) (d : Data) (ks : Kinds) (i : Shape) (fs : Fields) → Has c (ItemOf d) i → HasFields c d fs → Has c (PlainOf ks d) (by_kinds ks (texts_in d) (least_in d) i fs)
-content-has c d ks i fs items fields = λ sound n v h. by_kinds-has (NamesIn c (suc n)) ks (texts_in d) (least_in d) i fs v h.0 (parts sound n v h.1)
+pub content-has : (c : Context) (d : Data) (ks : Kinds) (i : Shape) (fs : Fields) → Has c (ItemOf d) i → HasFields c d fs → Has c (PlainOf ks d) (by_kinds ks (leaves_in d) (least_in d) i fs)
+content-has c d ks i fs items fields = λ sound n v h. by_kinds-has (NamesIn c (suc n)) ks (leaves_in d) (least_in d) i fs v h.0 (parts sound n v h.1)
   where
-    parts : IsSound c → (n : ℕ) (w : Value) → Plain d (Conforms c n) w → HasParts (NamesIn c (suc n)) (texts_in d) (least_in d) i fs w
-    parts sound n (string s) k = texts-has (NamesIn c (suc n)) s d k.2 k.3
+    parts : IsSound c → (n : ℕ) (w : Value) → Plain d (Conforms c n) w → HasParts (NamesIn c (suc n)) (leaves_in d) (least_in d) i fs w
+    parts sound n (boolean b) k = leaves_in-has (NamesIn c (suc n)) (boolean b) d tt k.2 k.3
+    parts sound n (number m) k = leaves_in-has (NamesIn c (suc n)) (number m) d tt k.2 k.3
+    parts sound n (string s) k = leaves_in-has (NamesIn c (suc n)) (string s) d tt k.2 k.3
     parts sound n (sequence vs) k = (
       least-has (get (codes "minItems") d) vs k.8,
       items-has (λ w. IfSome (items_in d) (λ x. Conforms c n x w)) (HasShape (NamesIn c (suc n)) i) (λ w x. items sound n w x) vs (items-of (Conforms c n) (items_in d) vs k.7),

@@ -1,22 +1,24 @@
 -- For the call `read_schema`: what is computed of kinds holds of the values that have them.
-use Rattle.std.proofs.Common.{◌≡◌, ◌⊎◌, Bool, true, false, ◌||◌, ◌&&◌, List, [], ◌∷◌, length, ℕ, suc, Option, Some, None, IfSome, inl, inr, ap, refl, subst, unwrap_or, if◌then◌else◌, codes}
+use Rattle.std.proofs.Common.{◌≡◌, ◌⊎◌, Bool, true, false, ◌||◌, ◌&&◌, List, [], ◌∷◌, length, ℕ, ℤ, suc, Option, Some, None, IfSome, inl, inr, ap, refl, subst, unwrap_or, if◌then◌else◌, codes}
 use Rattle.std.specs.Option.{option_map, option_map_or, option_and_then}
 use Rattle.std.proofs.lemmas.Bool.{false≢true}
 use Rattle.serde_json.specs.Data as json
 use Rattle.serde_json.specs.Data.{Data, Items, no_items}
-use Rattle.serde_json.specs.Find.{get}
+use Rattle.serde_json.specs.Find.{as_i64, get}
 use Rattle.serde_json.specs.View.{items_view}
 use Rattle.serde_json.specs.declared.value.Value as tree
 use Rattle.tmpl_values.specs.Value.{Value, nothing, null, boolean, number, string, sequence, mapping}
 use Rattle.tmpl_shape.specs.Shape.{Shape, never, nothings, nulls, truths, numbers, texts, exactly, anything, list_of, record_of, either, named, Names, Fields}
-use Rattle.tmpl_shape.specs.Shape.{HasShape}
+use Rattle.tmpl_shape.specs.Shape.{HasShape, value_of}
+use Rattle.tmpl_shape.specs.declared.constant.Constant.{Constant}
+use Rattle.tmpl_shape.specs.declared.constant.Constant.TheVariants as constant
 use Rattle.tmpl_shape.specs.computed.Meet.{or_shape}
 use Rattle.tmpl_shape.proofs.MeetLemmas.{or-one, or-other}
 use Rattle.tmpl_json_schema.specs.Document.{IsInstance, HasType, type_of, SomeItem, IsNameOfType, IsOfType, IsConstant, IsOneOf}
 use Rattle.tmpl_json_schema.specs.declared.kinds.Kinds.{Kinds}
 use Rattle.tmpl_json_schema.specs.computed.Fitting.{HasKind}
 use Rattle.tmpl_json_schema.specs.computed.Reading.{fold, either_kinds, both_kinds, no_kind, kind_named, kind_with, type_kinds}
-use Rattle.tmpl_json_schema.specs.computed.Reading.{text_with, const_texts, item_count, is_short, enum_texts, texts_in, constant_kind, constant_with, enum_kinds, or_if, by_kinds, if_kind, keep_kinds}
+use Rattle.tmpl_json_schema.specs.computed.Reading.{leaf_with, leaves, const_leaves, item_count, is_short, enum_leaves, leaves_in, constant_kind, constant_with, enum_kinds, or_if, by_kinds, has_kind, if_kind, keep_kinds}
 
 or-left : (a b : Bool) → a ≡ true → (a || b) ≡ true
 or-left true b e = refl
@@ -145,94 +147,69 @@ module _ (N : Names) where
   or_if-other true s t v h = or-other N s t v h
   or_if-other false s t v h = h
 
-  -- ---- strings
+  -- ---- strings, numbers and booleans
 
-  texts_with-has : (s : List ℕ) (ds : Items) (a b : Shape) → fold text_with a ds ≡ Some b → HasShape N a (string s) ⊎ SomeItem (IsConstant (string s)) ds
-      → HasShape N b (string s)
-  texts_with-has s no_items a b e h = elim h [ inl x ↦ is-some (λ t. HasShape N t (string s)) a b e x | inr x ↦ absurd x ]
-  texts_with-has s (json.item (json.string t) ds) a b e h = texts_with-has s ds (or_shape (exactly t) a) b e (elim h [
-    | inl x ↦ inl (or-other N (exactly t) a (string s) x)
-    | inr x ↦ elim x [ inl y ↦ inl (or-one N (exactly t) a (string s) y) | inr y ↦ inr y ]
+  abbrev pub IsLeaf : Value → Type 0
+  IsLeaf (boolean b) = Unit {0}
+  IsLeaf (number n) = Unit {0}
+  IsLeaf (string s) = Unit {0}
+  IsLeaf v = ⊥
+
+  leaves-has : (v : Value) → IsLeaf v → HasShape N leaves v
+  leaves-has (boolean b) l = inl tt
+  leaves-has (number n) l = inr (inl tt)
+  leaves-has (string s) l = inr (inr tt)
+  leaves-has v l = absurd l
+
+  const_leaves-has : (v : Value) (d : Data) → IsLeaf v → IsConstant v d → HasShape N (const_leaves d) v
+  const_leaves-has (boolean b) (json.boolean c) l h = ap boolean h
+  const_leaves-has (number n) (json.number m) l h = by (as_i64 m) h
+    where
+      by : (o : Option ℤ) → IfSome o (λ i. n ≡ i) → HasShape N (option_map_or (λ i. exactly (constant.Number i)) o numbers) (number n)
+      by (Some i) e = ap number e
+      by None e = tt
+  const_leaves-has (string s) (json.string t) l h = ap string h
+  const_leaves-has nothing d l h = absurd l
+  const_leaves-has null d l h = absurd l
+  const_leaves-has (sequence vs) d l h = absurd l
+  const_leaves-has (mapping es) d l h = absurd l
+  const_leaves-has v d l h = absurd h
+
+  leaves_with-has : (v : Value) (ds : Items) (a b : Shape) → IsLeaf v → fold leaf_with a ds ≡ Some b → HasShape N a v ⊎ SomeItem (IsConstant v) ds
+      → HasShape N b v
+  leaves_with-has v no_items a b l e h = elim h [ inl x ↦ is-some (λ t. HasShape N t v) a b e x | inr x ↦ absurd x ]
+  leaves_with-has v (json.item d ds) a b l e h = leaves_with-has v ds (or_shape (const_leaves d) a) b l e (elim h [
+    | inl x ↦ inl (or-other N (const_leaves d) a v x)
+    | inr x ↦ elim x [ inl y ↦ inl (or-one N (const_leaves d) a v (const_leaves-has v d l y)) | inr y ↦ inr y ]
   ])
-  texts_with-has s (json.item json.null ds) a b e h = texts_with-has s ds a b e (elim h [ inl x ↦ inl x | inr x ↦ elim x [ inl y ↦ absurd y | inr y ↦ inr y ] ])
-  texts_with-has s (json.item (json.boolean c) ds) a b e h = texts_with-has s ds a b e (elim h [ inl x ↦ inl x | inr x ↦ elim x [ inl y ↦ absurd y | inr y ↦ inr y ] ])
-  texts_with-has s (json.item (json.number c) ds) a b e h = texts_with-has s ds a b e (elim h [ inl x ↦ inl x | inr x ↦ elim x [ inl y ↦ absurd y | inr y ↦ inr y ] ])
-  texts_with-has s (json.item (json.array c) ds) a b e h = texts_with-has s ds a b e (elim h [ inl x ↦ inl x | inr x ↦ elim x [ inl y ↦ absurd y | inr y ↦ inr y ] ])
-  texts_with-has s (json.item (json.object c) ds) a b e h = texts_with-has s ds a b e (elim h [ inl x ↦ inl x | inr x ↦ elim x [ inl y ↦ absurd y | inr y ↦ inr y ] ])
 
-  enum_texts-has : (s : List ℕ) (d : Data) → IsOneOf (string s) d → HasShape N (enum_texts d) (string s)
-  enum_texts-has s (json.array ds) h = by (is_short ds) (fold text_with never ds) refl
+  enum_leaves-has : (v : Value) (d : Data) → IsLeaf v → IsOneOf v d → HasShape N (enum_leaves d) v
+  enum_leaves-has v (json.array ds) l h = by (is_short ds) (fold leaf_with never ds) refl
     where
-      by : (c : Bool) (o : Option Shape) → fold text_with never ds ≡ o → HasShape N (if c then unwrap_or o texts else texts) (string s)
-      by false o e = tt
-      by true None e = tt
-      by true (Some t) e = texts_with-has s ds never t e (inr h)
-  enum_texts-has s d h = tt
+      by : (c : Bool) (o : Option Shape) → fold leaf_with never ds ≡ o → HasShape N (if c then unwrap_or o leaves else leaves) v
+      by false o e = leaves-has v l
+      by true None e = leaves-has v l
+      by true (Some t) e = leaves_with-has v ds never t l e (inr h)
+  enum_leaves-has v d l h = leaves-has v l
 
-  const_texts-has : (s : List ℕ) (d : Data) → IsConstant (string s) d → HasShape N (const_texts d) (string s)
-  const_texts-has s (json.string t) h = h
-  const_texts-has s _ h = absurd h
-
-  pub texts-has : (s : List ℕ) (d : Data) → IfSome (get (codes "const") d) (IsConstant (string s)) → IfSome (get (codes "enum") d) (IsOneOf (string s))
-      → HasShape N (texts_in d) (string s)
-  texts-has s d c n = by (get (codes "const") d) c (get (codes "enum") d) n
+  pub leaves_in-has : (v : Value) (d : Data) → IsLeaf v → IfSome (get (codes "const") d) (IsConstant v) → IfSome (get (codes "enum") d) (IsOneOf v)
+      → HasShape N (leaves_in d) v
+  leaves_in-has v d l c n = by (get (codes "const") d) c (get (codes "enum") d) n
     where
-      by : (o : Option Data) → IfSome o (IsConstant (string s)) → (p : Option Data) → IfSome p (IsOneOf (string s))
-          → HasShape N (option_map_or const_texts o (option_map_or enum_texts p texts)) (string s)
-      by (Some x) h p k = const_texts-has s x h
-      by None h (Some x) k = enum_texts-has s x k
-      by None h None k = tt
-
-  -- strings have this shape, and what is inside has the shapes of items, of which there are at least as many, and of fields
-  abbrev pub HasParts : Shape → ℕ → Shape → Fields → Value → Type 0
-  HasParts ts n i fs (sequence vs) = HasShape N (list_of n i) (sequence vs)
-  HasParts ts n i fs (mapping es) = HasShape N (record_of fs) (mapping es)
-  HasParts ts n i fs (string s) = HasShape N ts (string s)
-  HasParts ts n i fs v = Unit {0}
-
-  module _ (ks : Kinds) (ts : Shape) (n : ℕ) (i : Shape) (fs : Fields) (v : Value) where
-    abbrev maps : Shape
-    maps = or_if ks.map (record_of fs) never
-
-    abbrev lists : Shape
-    lists = or_if ks.list (list_of n i) maps
-
-    abbrev strings : Shape
-    strings = or_if ks.text ts lists
-
-    abbrev wholes : Shape
-    wholes = or_if ks.number numbers strings
-
-    abbrev bools : Shape
-    bools = or_if ks.truth truths wholes
-
-    from-bools : HasShape N bools v → HasShape N (by_kinds ks ts n i fs) v
-    from-bools h = or_if-other ks.null nulls bools v h
-
-    from-wholes : HasShape N wholes v → HasShape N (by_kinds ks ts n i fs) v
-    from-wholes h = from-bools (or_if-other ks.truth truths wholes v h)
-
-    from-strings : HasShape N strings v → HasShape N (by_kinds ks ts n i fs) v
-    from-strings h = from-wholes (or_if-other ks.number numbers strings v h)
-
-    from-lists : HasShape N lists v → HasShape N (by_kinds ks ts n i fs) v
-    from-lists h = from-strings (or_if-other ks.text ts lists v h)
-
-    from-maps : HasShape N maps v → HasShape N (by_kinds ks ts n i fs) v
-    from-maps h = from-lists (or_if-other ks.list (list_of n i) maps v h)
-
-  pub by_kinds-has : (ks : Kinds) (ts : Shape) (n : ℕ) (i : Shape) (fs : Fields) (v : Value) → HasKind ks v → HasParts ts n i fs v → HasShape N (by_kinds ks ts n i fs) v
-  by_kinds-has ks ts n i fs nothing h p = absurd h
-  by_kinds-has ks ts n i fs null h p = or_if-one ks.null nulls (bools ks ts n i fs null) null h tt
-  by_kinds-has ks ts n i fs (boolean b) h p = from-bools ks ts n i fs (boolean b) (or_if-one ks.truth truths (wholes ks ts n i fs (boolean b)) (boolean b) h tt)
-  by_kinds-has ks ts n i fs (number m) h p = from-wholes ks ts n i fs (number m) (or_if-one ks.number numbers (strings ks ts n i fs (number m)) (number m) h tt)
-  by_kinds-has ks ts n i fs (string s) h p = from-strings ks ts n i fs (string s) (or_if-one ks.text ts (lists ks ts n i fs (string s)) (string s) h p)
-  by_kinds-has ks ts n i fs (sequence vs) h p = from-lists ks ts n i fs (sequence vs) (or_if-one ks.list (list_of n i) (maps ks ts n i fs (sequence vs)) (sequence vs) h p)
-  by_kinds-has ks ts n i fs (mapping es) h p = from-maps ks ts n i fs (mapping es) (or_if-one ks.map (record_of fs) never (mapping es) h p)
+      by : (o : Option Data) → IfSome o (IsConstant v) → (p : Option Data) → IfSome p (IsOneOf v)
+          → HasShape N (option_map_or const_leaves o (option_map_or enum_leaves p leaves)) v
+      by (Some x) h p k = const_leaves-has v x l h
+      by None h (Some x) k = enum_leaves-has v x l k
+      by None h None k = leaves-has v l
 
   if_kind-has : (c : Bool) (s : Shape) (v : Value) → c ≡ true → HasShape N s v → HasShape N (if_kind c s) v
   if_kind-has true s v e h = h
   if_kind-has false s v e h = absurd (false≢true e)
+
+  constant-kept : (ks : Kinds) (c : Constant) → HasKind ks (value_of c) → has_kind ks c ≡ true
+  constant-kept ks (constant.Bool b) h = h
+  constant-kept ks (constant.Number n) h = h
+  constant-kept ks (constant.Text s) h = h
 
   pub kept-has : (ks : Kinds) (s : Shape) (v : Value) → HasKind ks v → HasShape N s v → HasShape N (keep_kinds ks s) v
   kept-has ks never v k h = h
@@ -246,8 +223,7 @@ module _ (N : Names) where
   kept-has ks numbers v k h = absurd h
   kept-has ks texts (string s) k h = if_kind-has ks.text texts (string s) k h
   kept-has ks texts v k h = absurd h
-  kept-has ks (exactly t) (string s) k h = if_kind-has ks.text (exactly t) (string s) k h
-  kept-has ks (exactly t) v k h = absurd h
+  kept-has ks (exactly c) v k h = if_kind-has (has_kind ks c) (exactly c) v (constant-kept ks c (subst (HasKind ks) h k)) h
   kept-has ks (list_of n s) (sequence vs) k h = if_kind-has ks.list (list_of n s) (sequence vs) k h
   kept-has ks (list_of n s) v k h = absurd h
   kept-has ks (record_of fs) (mapping es) k h = if_kind-has ks.map (record_of fs) (mapping es) k h
@@ -258,3 +234,34 @@ module _ (N : Names) where
   ]
   kept-has ks anything v k h = h
   kept-has ks (named x) v k h = h
+
+  -- strings, numbers and booleans have this shape, and what is inside has the shapes of items, of which there are at least as many, and of fields
+  abbrev pub HasParts : Shape → ℕ → Shape → Fields → Value → Type 0
+  HasParts ls n i fs (sequence vs) = HasShape N (list_of n i) (sequence vs)
+  HasParts ls n i fs (mapping es) = HasShape N (record_of fs) (mapping es)
+  HasParts ls n i fs nothing = Unit {0}
+  HasParts ls n i fs null = Unit {0}
+  HasParts ls n i fs v = HasShape N ls v
+
+  module _ (ks : Kinds) (ls : Shape) (n : ℕ) (i : Shape) (fs : Fields) (v : Value) where
+    abbrev maps : Shape
+    maps = or_if ks.map (record_of fs) never
+
+    abbrev lists : Shape
+    lists = or_if ks.list (list_of n i) maps
+
+    from-lists : HasShape N lists v → HasShape N (by_kinds ks ls n i fs) v
+    from-lists h = or_if-other ks.null nulls (or_shape (keep_kinds ks ls) lists) v (or-other N (keep_kinds ks ls) lists v h)
+
+    from-leaves : HasKind ks v → HasShape N ls v → HasShape N (by_kinds ks ls n i fs) v
+    from-leaves k h = or_if-other ks.null nulls (or_shape (keep_kinds ks ls) lists) v (or-one N (keep_kinds ks ls) lists v (kept-has ks ls v k h))
+
+  pub by_kinds-has : (ks : Kinds) (ls : Shape) (n : ℕ) (i : Shape) (fs : Fields) (v : Value) → HasKind ks v → HasParts ls n i fs v → HasShape N (by_kinds ks ls n i fs) v
+  by_kinds-has ks ls n i fs nothing h p = absurd h
+  by_kinds-has ks ls n i fs null h p = or_if-one ks.null nulls (or_shape (keep_kinds ks ls) (lists ks ls n i fs null)) null h tt
+  by_kinds-has ks ls n i fs (boolean b) h p = from-leaves ks ls n i fs (boolean b) h p
+  by_kinds-has ks ls n i fs (number m) h p = from-leaves ks ls n i fs (number m) h p
+  by_kinds-has ks ls n i fs (string s) h p = from-leaves ks ls n i fs (string s) h p
+  by_kinds-has ks ls n i fs (sequence vs) h p = from-lists ks ls n i fs (sequence vs) (or_if-one ks.list (list_of n i) (maps ks ls n i fs (sequence vs)) (sequence vs) h p)
+  by_kinds-has ks ls n i fs (mapping es) h p =
+      from-lists ks ls n i fs (mapping es) (or_if-other ks.list (list_of n i) (maps ks ls n i fs (mapping es)) (mapping es) (or_if-one ks.map (record_of fs) never (mapping es) h p))

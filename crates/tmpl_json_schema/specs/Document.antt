@@ -8,7 +8,7 @@ use Rattle.std.specs.Str.{bytes_eq, is_utf8}
 use Rattle.percent_encoding.specs.Percent.{percent_decode}
 use Rattle.serde_json.specs.Data as json
 use Rattle.serde_json.specs.Data.{Data, unsigned, Items, no_items, Members, no_members, member}
-use Rattle.serde_json.specs.Find.{get, pointer}
+use Rattle.serde_json.specs.Find.{as_i64, get, pointer}
 use Rattle.serde_json.specs.Read.{read}
 use Rattle.tmpl_values.specs.Value.{Value, Entries, nothing, null, boolean, number, string, sequence, mapping}
 use Rattle.tmpl_values.specs.Elements.{values_of_items}
@@ -101,11 +101,11 @@ IsOfType v (json.string name) = HasType name v
 IsOfType v (json.array ds) = SomeItem (IsNameOfType v) ds
 IsOfType v d = Unit {0}
 
--- `const` (V 6.1.3): the value is this, as far as is looked: not into numbers, lists and maps
+-- `const` (V 6.1.3): the value is this, as far as is looked: not into lists and maps, nor into numbers that are not written as integers
 abbrev pub IsConstant : Value → Data → Type 0
 IsConstant null json.null = Unit {0}
 IsConstant (boolean b) (json.boolean c) = b ≡ c
-IsConstant (number n) (json.number m) = Unit {0}
+IsConstant (number n) (json.number m) = IfSome (as_i64 m) (λ i. n ≡ i)
 IsConstant (string s) (json.string t) = s ≡ t
 IsConstant (sequence vs) (json.array ds) = Unit {0}
 IsConstant (mapping es) (json.object ms) = Unit {0}

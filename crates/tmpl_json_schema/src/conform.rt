@@ -529,9 +529,15 @@ fn is_constant(constant: &Value, value: &Value) -> bool
         (Value::Null, Value::Null) => true,
         (Value::Bool(one), Value::Bool(other)) => *one == *other,
         (Value::String(one), Value::String(other)) => one.as_str() == other.as_str(),
-        (Value::Number(_), Value::Number(_)) | (Value::Array(_), Value::Array(_)) => *constant
+        (Value::Number(one), Value::Number(other)) => match one.as_i64() {
+            Some(one) => match other.as_i64() {
+                Some(other) => one == other,
+                None => false,
+            },
+            None => *constant == *value,
+        },
+        (Value::Array(_), Value::Array(_)) | (Value::Object(_), Value::Object(_)) => *constant
             == *value,
-        (Value::Object(_), Value::Object(_)) => *constant == *value,
         _ => false,
     }
 }

@@ -56,7 +56,7 @@ fn is_count(value: &Value) -> bool {
 }
 
 /// Whether what stands under a keyword is what it wants; if not, what that is.
-fn wanted(keyword: Keyword, value: &Value) -> Option<&'static str> {
+fn expectation(keyword: Keyword, value: &Value) -> Option<&'static str> {
     match keyword {
         Keyword::Number if !value.is_number() => Some("a number is wanted"),
         Keyword::Bound if !value.is_number() && !value.is_boolean() => Some("a number is wanted"),
@@ -156,7 +156,7 @@ impl Search<'_> {
     /// Looks at a keyword of a schema.
     fn look_at(&mut self, name: &str, value: &Value) -> Result<(), SchemaFault> {
         let keyword = keyword_of(name);
-        if let Some(text) = wanted(keyword, value) {
+        if let Some(text) = expectation(keyword, value) {
             return Err(refusal(self.alloc, text));
         }
         match (keyword, value) {

@@ -14,12 +14,12 @@ mod infer;
 mod keyword;
 mod kinds;
 mod known;
+mod leaves;
 mod pattern;
 mod read;
 mod reference;
 mod schema;
 mod shapes;
-mod texts;
 mod violation;
 
 pub use conform::{LEVELS, conforms, conforms_to};

@@ -299,22 +299,22 @@ impl<'p> PatternText<'p> {
         let inside = self.rest;
         if let [b'^', rest @ ..] = inside {
             self.rest = rest;
-            self.chosen(None)?;
+            self.choose(None)?;
             let end = self.rest;
             for other in OTHERS {
                 self.rest = rest;
-                if self.chosen(Some(*other))?.is_none() {
+                if self.choose(Some(*other))?.is_none() {
                     return Some(*other);
                 }
             }
             self.rest = end;
             return None;
         }
-        self.chosen(None)?
+        self.choose(None)?
     }
 
     /// The first byte of a class up to its `]`, or this one where the class has it.
-    fn chosen(&mut self, wanted: Option<u8>) -> Option<Option<u8>> {
+    fn choose(&mut self, wanted: Option<u8>) -> Option<Option<u8>> {
         let mut found: Option<u8> = None;
         for _ in 0..self.rest.len() {
             let first = self.next()?;

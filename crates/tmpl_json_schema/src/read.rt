@@ -18,9 +18,9 @@ use crate::draft::Draft;
 use crate::fault::{SchemaFault, at_index, refusal, refusal_of, under};
 use crate::fields::{has_content, is_required, least_in, required_in};
 use crate::kinds::{Kinds, is_every_kind, kinds_in};
+use crate::leaves::leaves_in;
 use crate::reference::{follow_pointer, fragment_of, is_listed};
 use crate::shapes::{by_kinds, is_anything, keep_kinds, rest_of};
-use crate::texts::texts_in;
 use serde_json::{Map, Value};
 use std::alloc::{AllocError, Global};
 use tmpl_shape::{
@@ -425,8 +425,8 @@ fn content_shape(reader: &Reader<'_>, steps: usize, schema: &Value, kinds: Kinds
     }
     let item = items_shape(reader, steps, schema)?;
     let fields = fields_in(reader, steps, schema)?;
-    let texts = texts_in(reader.alloc, schema)?;
-    Ok(by_kinds(reader.alloc, kinds, texts, least_in(schema), item, fields)?)
+    let leaves = leaves_in(reader.alloc, schema)?;
+    Ok(by_kinds(reader.alloc, kinds, leaves, least_in(schema), item, fields)?)
 }
 
 /// The schema of each item, if there is one.

@@ -4,12 +4,14 @@
 ghost use Rattle.std.specs.Prelude.{◌≡◌, IfOk};
 ghost use Rattle.tmpl_shape.specs.View.{fields_of, shape_of};
 ghost use Rattle.tmpl_shape.specs.computed.Meet.{or_shape};
-ghost use Rattle.tmpl_json_schema.specs.computed.Reading.{by_kinds, if_kind, is_anything, keep_kinds, or_if, rest_of, shape_of_rest};
+ghost use Rattle.tmpl_json_schema.specs.computed.Reading.{by_kinds, has_kind, if_kind, is_anything, keep_kinds, or_if, rest_of, shape_of_rest};
 
 use crate::Result;
 use crate::kinds::Kinds;
 use std::alloc::Global;
-use tmpl_shape::{Fields, Shape, copy_shape, either, is_never, list_of, or_all, or_shape};
+use tmpl_shape::{
+    Constant, Fields, Shape, copy_shape, either, is_never, list_of, or_all, or_shape,
+};
 
 /// Whether each value is one.
 pub(crate) fn is_anything(shape: &Shape) -> bool
@@ -38,24 +40,23 @@ fn or_if(alloc: Global, is_asked: bool, one: Shape, other: Shape) -> Result<Shap
     Ok(other)
 }
 
-/// The values of these kinds, with these strings, at least as many such items, and such fields.
+/// The values of these kinds, with these strings, numbers and booleans, at least as many such items, and such fields.
 #[inline(never)]
 pub(crate) fn by_kinds(
     alloc: Global,
     kinds: Kinds,
-    texts: Shape,
+    leaves: Shape,
     least: u64,
     item: Shape,
     fields: Fields,
 ) -> Result<Shape>
-    ensures { IfOk result (λ s. shape_of s ≡ by_kinds kinds (shape_of texts) least (shape_of item) (fields_of fields)) }
+    ensures { IfOk result (λ s. shape_of s ≡ by_kinds kinds (shape_of leaves) least (shape_of item) (fields_of fields)) }
 {
     let shape = or_if(alloc, kinds.map, Shape::Record(fields), Shape::Never)?;
     let list = list_of(alloc, least, item)?;
     let shape = or_if(alloc, kinds.list, list, shape)?;
-    let shape = or_if(alloc, kinds.text, texts, shape)?;
-    let shape = or_if(alloc, kinds.number, Shape::Numbers, shape)?;
-    let shape = or_if(alloc, kinds.truth, Shape::Truths, shape)?;
+    let kept = keep_kinds(alloc, kinds, leaves)?;
+    let shape = or_shape(alloc, kept, shape)?;
     or_if(alloc, kinds.null, Shape::Nulls, shape)
 }
 
@@ -64,6 +65,17 @@ fn if_kind(is_asked: bool, shape: Shape) -> Shape
     ensures { shape_of result ≡ if_kind is_asked (shape_of shape) }
 {
     if is_asked { shape } else { Shape::Never }
+}
+
+/// Whether a constant is of these kinds.
+fn has_kind(kinds: Kinds, constant: &Constant) -> bool
+    ensures { result ≡ has_kind kinds constant.now }
+{
+    match constant {
+        Constant::Bool(_) => kinds.truth,
+        Constant::Number(_) => kinds.number,
+        Constant::Text(_) => kinds.text,
+    }
 }
 
 /// Those of these kinds.
@@ -78,7 +90,10 @@ pub(crate) fn keep_kinds(alloc: Global, kinds: Kinds, shape: Shape) -> Result<Sh
         Shape::Truths => Ok(if_kind(kinds.truth, Shape::Truths)),
         Shape::Numbers => Ok(if_kind(kinds.number, Shape::Numbers)),
         Shape::Texts => Ok(if_kind(kinds.text, Shape::Texts)),
-        Shape::Exactly(text) => Ok(if_kind(kinds.text, Shape::Exactly(text))),
+        Shape::Exactly(constant) => Ok(if_kind(
+            has_kind(kinds, &constant),
+            Shape::Exactly(constant),
+        )),
         Shape::List { least, items } => Ok(if_kind(kinds.list, Shape::List { least, items })),
         Shape::Record(fields) => Ok(if_kind(kinds.map, Shape::Record(fields))),
         Shape::Either(one, other) => {

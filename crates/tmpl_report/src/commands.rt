@@ -323,7 +323,7 @@ impl<'w> Walk<'w> {
         let mut operands = Vec::new(self.alloc);
         if let [command] = pipeline.commands.as_slice() {
             if let Some(operand) = only_operand(command) {
-                operands.push(self.given(operand, scope))?;
+                operands.push(self.give(operand, scope))?;
             }
         }
         self.add(operands, scope)
@@ -340,7 +340,7 @@ impl<'w> Walk<'w> {
             self.visit_command(command, piped, scope)?;
             self.operands(command, scope, levels - 1)?;
             piped = Some(match (piped, only_operand(command)) {
-                (None, Some(operand)) => self.given(operand, scope),
+                (None, Some(operand)) => self.give(operand, scope),
                 _ => Given::Unknown,
             });
         }
@@ -384,7 +384,7 @@ impl<'w> Walk<'w> {
         }
         let mut operands = Vec::new(self.alloc);
         for operand in rest {
-            operands.push(self.given(operand, scope))?;
+            operands.push(self.give(operand, scope))?;
         }
         if let Some(piped) = piped {
             operands.push(piped)?;
@@ -423,7 +423,7 @@ impl<'w> Walk<'w> {
     }
 
     /// What is known of an operand.
-    fn given(&self, operand: &'w Operand, scope: Scope<'w>) -> Given<'w> {
+    fn give(&self, operand: &'w Operand, scope: Scope<'w>) -> Given<'w> {
         match operand {
             Operand::Number(number) => Given::Number(*number),
             Operand::Text(text) => Given::Text(text.as_slice()),

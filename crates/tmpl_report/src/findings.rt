@@ -312,7 +312,7 @@ impl<'a> Findings<'a> {
             × AreOfFiles (set_view set.old) files.now (set_view set.new) errors
             × (errors_in self.new ≡ errors_in self.old ++ errors)) }
     {
-        let surveys = surveyed(self.alloc, hash, files)?;
+        let surveys = survey_files(self.alloc, hash, files)?;
         let templates = templates_in(self.alloc, hash, files, surveys.as_slice())?;
         self.add_each(hash, question.name, files, surveys, &templates, set)?;
         self.add_asked(question, &templates)?;
@@ -566,7 +566,11 @@ fn findings_in<'a>(
 }
 
 /// The surveys of files.
-fn surveyed<'f>(alloc: Global, hash: NameHash, files: &'f [Source<'_>]) -> Result<Vec<Survey<'f>>> {
+fn survey_files<'f>(
+    alloc: Global,
+    hash: NameHash,
+    files: &'f [Source<'_>],
+) -> Result<Vec<Survey<'f>>> {
     let mut surveys = Vec::new(alloc);
     for file in files {
         surveys.push(survey_file(alloc, hash, file.bytes.as_slice())?)?;

@@ -19,18 +19,23 @@ use Rattle.tmpl_meaning.specs.Meaning.{elements_visited}
 use Rattle.tmpl_meaning.specs.declared.missing_key.MissingKey.{MissingKey}
 use Rattle.tmpl_meaning.specs.declared.missing_key.MissingKey.TheVariants as mode
 use Rattle.tmpl_shape.specs.Shape.{Shape, never, nothings, nulls, numbers, texts, exactly, list_of, record_of, either, named, Names, Fields, no_field, others, field}
-use Rattle.tmpl_shape.specs.Shape.{EachItem, EachEntry, AreDistinct, HasRequired, HasShape, IsField}
+use Rattle.tmpl_shape.specs.Shape.{EachItem, EachEntry, AreDistinct, HasRequired, HasShape, IsField, value_of}
+use Rattle.tmpl_shape.specs.declared.constant.Constant.{Constant}
+use Rattle.tmpl_shape.specs.declared.constant.Constant.TheVariants as constant
 use Rattle.tmpl_shape.specs.computed.Means.{Means}
-use Rattle.tmpl_shape.specs.computed.Shapes.{Base, Test, has_least, is_among, is_apart, shows_there, least_of, lets_text, shape_at, is_never, is_required, with_field, with_refined, both, blurred, refine_record, refine_text, refine_by, refine, fill, absent_shape, of_field, entry_shape}
-use Rattle.tmpl_shape.specs.computed.Shapes.{field_shape_by, field_shape, chain_shape, any_field, Visit, both_visits, visit_by, visit_of}
+use Rattle.tmpl_shape.specs.computed.Shapes.{Base, Test, has_least, is_among, is_apart, shows_there, least_of, lets_value, shape_at, is_never, is_required, with_field, with_refined, both, blurred, refine_record, refine_constant, refine_by, refine, fill, absent_shape, of_field, entry_shape}
+use Rattle.tmpl_shape.proofs.ConstantLemmas.{kind-has}
+use Rattle.tmpl_shape.specs.computed.Shapes.{kind_shape, field_shape_by, field_shape, chain_shape, any_field, Visit, both_visits, visit_by, visit_of}
 use Rattle.tmpl_schema.specs.computed.Check.{absent_field}
 use Rattle.tmpl_shape.proofs.ShapeLemmas.{same_name, or_cases, required-has, blurred-has, join-left, join-right}
 
 -- a value is as a test shows, but for being there
 abbrev pub Passes : Test → Value → Type 0
 Passes test (sequence vs) = least_of test ≤ length (values_of_items vs)
-Passes test (string t) = lets_text test t ≡ true
-Passes test v = Unit {0}
+Passes test (mapping es) = Unit {0}
+Passes test nothing = Unit {0}
+Passes test null = Unit {0}
+Passes test v = lets_value test v ≡ true
 
 abbrev pub Shows : Test → Value → Type 0
 Shows test v = (shows_there test ≡ true → is_nothing v ≡ false) × Passes test v
@@ -45,8 +50,8 @@ only-there (sequence vs) t = (λ e. t, omega arith)
 only-there (string s) t = (λ e. t, refl)
 only-there nothing t = (λ e. t, tt)
 only-there null t = (λ e. t, tt)
-only-there (boolean b) t = (λ e. t, tt)
-only-there (number n) t = (λ e. t, tt)
+only-there (boolean b) t = (λ e. t, refl)
+only-there (number n) t = (λ e. t, refl)
 only-there (mapping es) t = (λ e. t, tt)
 
 -- what is not empty is neither nothing nor null, and has an item if it is a list
@@ -55,9 +60,9 @@ full-thing nothing t = absurd (false≢true t)
 full-thing null t = absurd (false≢true t)
 full-thing (sequence no_item) t = absurd (false≢true t)
 full-thing (sequence (item v vs)) t = (λ e. refl, omega arith)
-full-thing (boolean b) t = (λ e. refl, tt)
-full-thing (number n) t = (λ e. refl, tt)
-full-thing (string s) t = (λ e. refl, refl)
+full-thing (boolean b) t = (λ e. refl, t)
+full-thing (number n) t = (λ e. refl, t)
+full-thing (string s) t = (λ e. refl, t)
 full-thing (mapping es) t = (λ e. refl, tt)
 
 module _ (base : Base) (N : Names) (means : Means base.defs N) where
@@ -332,13 +337,15 @@ module _ (base : Base) (N : Names) (means : Means base.defs N) where
   least-has (is_among os) (n ∷ ns) vs t = omega arith
   least-has (is_apart os) (n ∷ ns) vs t = omega arith
 
-  text-refined : (test : Test) (ns : List (List ℕ)) (u w : List ℕ) → w ≡ u → Ends test ns (string w) → HasShape N (refine_text test ns u) (string w)
-  text-refined test (n ∷ ns) u w same t = same
-  text-refined test [] u w same t = by (lets_text test u) refl
-    where
-      by : (b : Bool) → lets_text test u ≡ b → HasShape N (if b then exactly u else never) (string w)
-      by true e = same
-      by false e = absurd (false≢true (sym e ∙ subst (λ (x : List ℕ). lets_text test x ≡ true) same (t.1 (string w) refl refl)))
+  -- a constant that ends no chain of fields passes the test
+  constant-passes : (test : Test) (c : Constant) → Ends test [] (value_of c) → lets_value test (value_of c) ≡ true
+  constant-passes test (constant.Bool b) t = t.1 (boolean b) refl refl
+  constant-passes test (constant.Number n) t = t.1 (number n) refl refl
+  constant-passes test (constant.Text s) t = t.1 (string s) refl refl
+
+  constant-refined : (test : Test) (ns : List (List ℕ)) (c : Constant) (v : Value) → v ≡ value_of c → Ends test ns v → HasShape N (refine_constant test ns c) v
+  constant-refined test (n ∷ ns) c v same t = same
+  constant-refined test [] c v same t = rw (constant-passes test c (subst (Ends test []) same t)) same
 
   refine_by-has : (test : Test) (i : ℕ) (ns : List (List ℕ)) (s : Shape) (v : Value) → HasShape N s v → Ends test ns v → HasShape N (refine_by base test i ns s) v
   refine_by-has test zero ns s v h t = h
@@ -346,8 +353,7 @@ module _ (base : Base) (N : Names) (means : Means base.defs N) where
   refine_by-has test (suc i) ns nothings _ h t = absurd h
   refine_by-has test (suc i) ns nulls null h t = blank-left test nulls null h (λ e. let x = t.0 e in of_null-empty ns x.0 x.1 x.2)
   refine_by-has test (suc i) ns nulls _ h t = absurd h
-  refine_by-has test (suc i) ns (exactly u) (string w) h t = text-refined test ns u w h t
-  refine_by-has test (suc i) ns (exactly u) _ h t = absurd h
+  refine_by-has test (suc i) ns (exactly c) v h t = constant-refined test ns c v h t
   refine_by-has test (suc i) ns (list_of n s) (sequence vs) h t = (max-le h.0 (least-has test ns vs t), h.1)
   refine_by-has test (suc i) ns (list_of n s) _ h t = absurd h
   refine_by-has test (suc i) ns (either s u) v h t =
@@ -446,6 +452,7 @@ module _ (base : Base) (N : Names) (means : Means base.defs N) where
   visit_by-gives (suc i) (declare name) numbers (number n) h = count-visits _
   visit_by-gives (suc i) (assign name) numbers (number n) h = count-visits _
   visit_by-gives (suc i) c numbers _ h = absurd h
+  visit_by-gives (suc i) c (exactly d) v h = visit_by-gives i c (kind_shape d) v (kind-has N d v h)
   visit_by-gives (suc i) c (list_of n s) (sequence vs) h = rw (no-number c (sequence vs) refl) (list-visits s vs 0 h.1)
   visit_by-gives (suc i) c (list_of n s) _ h = absurd h
   visit_by-gives (suc i) c (record_of fs) (mapping es) h = rw (no-number c (mapping es) refl) (record-visits fs es h.1)

@@ -1,15 +1,22 @@
 -- A value whose null is taken for nothing has the shape whose nulls are.
-use Rattle.std.proofs.Common.{◌≡◌, ◌∙◌, ℕ, zero, suc, Bool, true, false, Option, Some, None, inl, inr, refl, sym, if◌then◌else◌}
+use Rattle.std.proofs.Common.{◌≡◌, ◌∙◌, ℕ, zero, suc, Bool, true, false, Option, Some, None, inl, inr, ap, refl, sym, if◌then◌else◌}
 use Rattle.std.proofs.lemmas.Bool.{false≢true}
 use Rattle.std.specs.Option.{option_map_or}
 use Rattle.tmpl_values.specs.Value.{Value, null}
 use Rattle.tmpl_meaning.specs.Pipeline.{without_null}
-use Rattle.tmpl_shape.specs.Shape.{Shape, nothings, nulls, anything, either, named, Names, HasShape}
+use Rattle.tmpl_shape.specs.Shape.{Shape, nothings, nulls, exactly, anything, either, named, Names, HasShape, value_of}
+use Rattle.tmpl_shape.specs.declared.constant.Constant.{Constant}
+use Rattle.tmpl_shape.specs.declared.constant.Constant.TheVariants as constant
 use Rattle.tmpl_shape.specs.computed.Means.{Means}
 use Rattle.tmpl_shape.specs.computed.Shapes.{Base, has_kind, null_gone_by, null_gone}
 use Rattle.tmpl_shape.specs.declared.kind.Kind.TheVariants.{Blank}
 use Rattle.tmpl_shape.proofs.KindLemmas.{has_kind-has}
 use Rattle.tmpl_shape.proofs.ShapeLemmas.{join-left, join-right}
+
+no_null : (c : Constant) → without_null (value_of c) ≡ value_of c
+no_null (constant.Bool b) = refl
+no_null (constant.Number n) = refl
+no_null (constant.Text s) = refl
 
 module _ (base : Base) (N : Names) (means : Means base.defs N) where
   never_null : (s : Shape) → has_kind base Blank s ≡ false → HasShape N s null → ⊥
@@ -46,6 +53,7 @@ module _ (base : Base) (N : Names) (means : Means base.defs N) where
           → HasShape N (if c then option_map_or (null_gone_by base n) (base.defs x) (either (named x) nothings) else named x) (without_null v)
       by true is f = at (base.defs x) refl f
       by false is f = kept v is h
+  null_gone_by-has (suc n) (exactly c) v h = ap without_null h ∙ no_null c
   null_gone_by-has (suc n) s null h = absurd h
   null_gone_by-has (suc n) s _ h = h
 

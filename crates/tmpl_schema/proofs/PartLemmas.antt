@@ -13,7 +13,8 @@ use Rattle.tmpl_funcs.specs.declared.func.Func.TheVariants as func
 use Rattle.tmpl_meaning.specs.Fault.{Cause, call_failed}
 use Rattle.tmpl_shape.specs.Shape.{Shape, never, texts, exactly, list_of, either, named, Names, EachItem, HasShape}
 use Rattle.tmpl_shape.specs.computed.Means.{Means}
-use Rattle.tmpl_shape.specs.computed.Shapes.{Base, list_part, text_part, part_shape_by, part_shape}
+use Rattle.tmpl_shape.proofs.ConstantLemmas.{kind-has}
+use Rattle.tmpl_shape.specs.computed.Shapes.{Base, kind_shape, list_part, text_part, part_shape_by, part_shape}
 use Rattle.tmpl_schema.proofs.FieldLemmas.{Gives, both-left, both-right}
 
 module _ (P : Value → Type 0) where
@@ -91,8 +92,7 @@ module _ (base : Base) (N : Names) (means : Means base.defs N) where
   part_by-gives (suc k) i to never v h = absurd h
   part_by-gives (suc k) i to texts (string s) h = text-gives i to s
   part_by-gives (suc k) i to texts _ h = absurd h
-  part_by-gives (suc k) i to (exactly t) (string s) h = text-gives i to s
-  part_by-gives (suc k) i to (exactly t) _ h = absurd h
+  part_by-gives (suc k) i to (exactly c) v h = part_by-gives k i to (kind_shape c) v (kind-has N c v h)
   part_by-gives (suc k) i to (list_of n s) (sequence vs) h = list-gives i to n s vs h.0 h.1
   part_by-gives (suc k) i to (list_of n s) _ h = absurd h
   part_by-gives (suc k) i to (either s t) v h =

@@ -31,10 +31,10 @@ use Rattle.tmpl_shape.specs.Shape.{Fields, Shape, never, nothings, nulls, texts,
 use Rattle.tmpl_shape.specs.declared.kind.Kind.TheVariants.{Blank}
 use Rattle.tmpl_shape.specs.computed.Formats.{printf_shape}
 use Rattle.tmpl_shape.specs.computed.Means.{Means}
-use Rattle.tmpl_shape.specs.computed.Shapes.{Base, Test, has_least, is_among, is_apart, least_of, lets_text, is_constant, within, both, any_field, fill, has_kind, join, keyed_shape, null_gone, refine, chain_shape, entry_shape, index_shape, index_shape_by}
+use Rattle.tmpl_shape.specs.computed.Shapes.{Base, Test, has_least, is_among, is_apart, least_of, lets_value, is_constant, is_named, is_same, within, both, any_field, fill, has_kind, join, keyed_shape, null_gone, refine, chain_shape, entry_shape, index_shape, index_shape_by}
 use Rattle.tmpl_shape.specs.computed.Shapes.{Key, of_name, of_text, of_place, item_shape, part_shape}
 use Rattle.tmpl_shape.specs.computed.Calls.{call_shape, shape_by_function}
-use Rattle.tmpl_schema.specs.computed.Check.{Fact, call_counts, call_fact, command_call, count_of, counts_in, first_fact, least_by, length_fact, mirrored, more_than, one_of}
+use Rattle.tmpl_schema.specs.computed.Check.{Fact, call_counts, call_fact, command_call, count_of, counts_in, first_fact, least_by, length_fact, mirror, more_than, one_of}
 use Rattle.tmpl_schema.specs.computed.Check.{operand_counts, are_constants, is_nil_alone, equal_test, constant_test, pair_fact, compare_fact, turned_fact, piped_fact, tells, narrow_all, narrow_as, narrow_by, narrow_command, narrow_operand, narrow_to}
 use Rattle.tmpl_schema.specs.computed.Check.{are_texts, bounds_of, sliced_shape, call_place, chain_place, index_place, texts_in, deciding_shape, passing_shape, passed, operand_shapes, junction_shape, commands_shape}
 use Rattle.tmpl_schema.specs.computed.Check as check
@@ -58,12 +58,17 @@ use Rattle.tmpl_meaning.proofs.PartLemmas.{by_count, decided}
 -- ---- numbers of items
 
 -- a value has as many items, and so it is there
+full-string : (s : List ℕ) (i l : ℕ) → size_of (string s) ≡ Some i → l ≤ i → lets_value (has_least l) (string s) ≡ true
+full-string s i zero e h = refl
+full-string s zero (suc l) e h = omega (arith, h)
+full-string s (suc i) (suc l) e h = rw e refl
+
 sized-there : (u : Value) (i l : ℕ) → size_of u ≡ Some i → l ≤ i → Shows (has_least l) u
 sized-there nothing i l e h = cc
 sized-there null i l e h = cc
 sized-there (boolean b) i l e h = cc
 sized-there (number n) i l e h = cc
-sized-there (string s) i l e h = (λ x. refl, refl)
+sized-there (string s) i l e h = (λ x. refl, full-string s i l e h)
 sized-there (mapping es) i l e h = (λ x. refl, tt)
 sized-there (sequence vs) i l e h = let same : length (values_of_items vs) ≡ i = cc in (λ x. refl, omega arith)
 
@@ -181,28 +186,28 @@ counted-least _ true i n l v e t is = cc
 counted-least _ false i n l v e t is = cc
 
 -- .. and a number, compared with it
-mirrored-least : (f : Func) (c : Bool) (i n l : ℕ) (v : Value) → compared f (whole n) (whole i) ≡ Ok v → truth v ≡ c → least_by c (mirrored f) n ≡ Some l → l ≤ i
-mirrored-least func.Eq true i n l v e t is = let same = same-true n i (eq-told (whole n) (whole i) v true e t) in let one : n ≡ l = cc in omega arith
-mirrored-least func.Eq false i n l v e t is =
+mirror-least : (f : Func) (c : Bool) (i n l : ℕ) (v : Value) → compared f (whole n) (whole i) ≡ Ok v → truth v ≡ c → least_by c (mirror f) n ≡ Some l → l ≤ i
+mirror-least func.Eq true i n l v e t is = let same = same-true n i (eq-told (whole n) (whole i) v true e t) in let one : n ≡ l = cc in omega arith
+mirror-least func.Eq false i n l v e t is =
     let apart : n ≡ i → ⊥ = same-false n i (eq-told (whole n) (whole i) v false e t) in more_than-least i n l (λ same. apart (sym same)) is
-mirrored-least func.Ne true i n l v e t is =
+mirror-least func.Ne true i n l v e t is =
     let apart : n ≡ i → ⊥ = same-false n i (ne-told (whole n) (whole i) v true e t) in more_than-least i n l (λ same. apart (sym same)) is
-mirrored-least func.Ne false i n l v e t is = let same = same-true n i (ne-told (whole n) (whole i) v false e t) in let one : n ≡ l = cc in omega arith
-mirrored-least func.Lt true i n l v e t is = let h = below-true n i (lt-told (whole n) (whole i) v true e t) in let one : n + 1 ≡ l = cc in omega arith
-mirrored-least func.Le true i n l v e t is = let h = upto-true n i (le-told (whole n) (whole i) v true e t) in let one : n ≡ l = cc in omega arith
-mirrored-least func.Gt false i n l v e t is = let h = upto-true n i (gt-told (whole n) (whole i) v false e t) in let one : n ≡ l = cc in omega arith
-mirrored-least func.Ge false i n l v e t is = let h = below-true n i (ge-told (whole n) (whole i) v false e t) in let one : n + 1 ≡ l = cc in omega arith
-mirrored-least _ true i n l v e t is = cc
-mirrored-least _ false i n l v e t is = cc
+mirror-least func.Ne false i n l v e t is = let same = same-true n i (ne-told (whole n) (whole i) v false e t) in let one : n ≡ l = cc in omega arith
+mirror-least func.Lt true i n l v e t is = let h = below-true n i (lt-told (whole n) (whole i) v true e t) in let one : n + 1 ≡ l = cc in omega arith
+mirror-least func.Le true i n l v e t is = let h = upto-true n i (le-told (whole n) (whole i) v true e t) in let one : n ≡ l = cc in omega arith
+mirror-least func.Gt false i n l v e t is = let h = upto-true n i (gt-told (whole n) (whole i) v false e t) in let one : n ≡ l = cc in omega arith
+mirror-least func.Ge false i n l v e t is = let h = below-true n i (ge-told (whole n) (whole i) v false e t) in let one : n + 1 ≡ l = cc in omega arith
+mirror-least _ true i n l v e t is = cc
+mirror-least _ false i n l v e t is = cc
 
 -- .. also where it is piped
 piped-least : (f : Func) (c : Bool) (i n l : ℕ) (all both any : Given Value) (v : Value) → all.result ≡ compared f (whole n) (whole i)
-    → (by_function f all both any).result ≡ Ok v → truth v ≡ c → least_by c (mirrored f) n ≡ Some l → l ≤ i
+    → (by_function f all both any).result ≡ Ok v → truth v ≡ c → least_by c (mirror f) n ≡ Some l → l ≤ i
 piped-least func.And true i n l all both any v same e t is = cc
 piped-least func.And false i n l all both any v same e t is = cc
 piped-least func.Or true i n l all both any v same e t is = cc
 piped-least func.Or false i n l all both any v same e t is = cc
-piped-least f c i n l all both any v same e t is = mirrored-least f c i n l v (sym same ∙ e) t is
+piped-least f c i n l all both any v same e t is = mirror-least f c i n l v (sym same ∙ e) t is
 
 module _ (base : Base) (N : Names) (means : Means base.defs N) (top : Value) where
   -- the variables have these names, shapes and origins
@@ -988,53 +993,36 @@ module _ (base : Base) (N : Names) (means : Means base.defs N) (top : Value) whe
     first_fact-fits None b k h g = g
     first_fact-fits (Some a) b k h g = h
 
-    -- a value of which a string is tested
-    passes-text : (test : Test) (u : Value) → least_of test ≡ 0 → ((t : List ℕ) → u ≡ string t → lets_text test t ≡ true) → Passes test u
-    passes-text test (sequence vs) e f = omega (arith, e)
-    passes-text test (string t) e f = f t refl
-    passes-text test nothing e f = tt
-    passes-text test null e f = tt
-    passes-text test (boolean b) e f = tt
-    passes-text test (number n) e f = tt
-    passes-text test (mapping es) e f = tt
+    -- a value of which it is tested which constant it is
+    passes-value : (test : Test) (u : Value) → least_of test ≡ 0 → lets_value test u ≡ true → Passes test u
+    passes-value test (sequence vs) e f = omega (arith, e)
+    passes-value test (mapping es) e f = tt
+    passes-value test nothing e f = tt
+    passes-value test null e f = tt
+    passes-value test (string t) e f = f
+    passes-value test (boolean b) e f = f
+    passes-value test (number n) e f = f
 
-    -- a string that equals a constant is that constant, and one that differs is not
-    constant-first : (t : List ℕ) (o : Operand) (os : Operands) (w : Value) → tells true o ≡ true → (operand_value (place m d env) o).result ≡ Ok w
-        → equality (string t) w ≡ Some true → is_constant t (operand o os) ≡ true
-    constant-first t (text_constant s) os w is e h =
-        let same : w ≡ string s = cc in
-        let it : bytes_eq t s ≡ true = some_same (bytes_eq t s) true (subst (λ (x : Value). equality (string t) x ≡ Some true) same h) in rw it refl
-      where
-        some_same : (a b : Bool) → Some a ≡ Some b → a ≡ b
-        some_same a b e = cc
-    constant-first t (bool_constant q) os w is e h =
-        let same : w ≡ boolean q = cc in absurd (by (subst (λ (x : Value). equality (string t) x ≡ Some true) same h))
-      where
-        by : equality (string t) (boolean q) ≡ Some true → ⊥
-        by e = cc
-    constant-first t (number_constant q) os w is e h =
-        let same : w ≡ number q = cc in absurd (by (subst (λ (x : Value). equality (string t) x ≡ Some true) same h))
-      where
-        by : equality (string t) (number q) ≡ Some true → ⊥
-        by e = cc
-    constant-first t _ os w is e h = absurd (false≢true is)
+    -- what equals a constant is it, and what differs is not
+    same-told : (u w x : Value) (b : Bool) → w ≡ x → equality u w ≡ Some b → is_same u x ≡ b
+    same-told u w x b same h = rw (subst (λ (y : Value). equality u y ≡ Some b) same h) refl
 
-    constant-more : (t : List ℕ) (o : Operand) (os : Operands) → is_constant t os ≡ true → is_constant t (operand o os) ≡ true
-    constant-more t (text_constant s) os e = rw e (or_true (bytes_eq t s))
-    constant-more t _ os e = e
+    constant-first : (u : Value) (o : Operand) (os : Operands) (w : Value) → tells true o ≡ true → (operand_value (place m d env) o).result ≡ Ok w
+        → equality u w ≡ Some true → is_constant u (operand o os) ≡ true
+    constant-first u (text_constant s) os w is e h = let same : w ≡ string s = cc in rw (same-told u w (string s) true same h) refl
+    constant-first u (bool_constant q) os w is e h = let same : w ≡ boolean q = cc in rw (same-told u w (boolean q) true same h) refl
+    constant-first u (number_constant q) os w is e h = let same : w ≡ number q = cc in rw (same-told u w (number q) true same h) refl
+    constant-first u _ os w is e h = absurd (false≢true is)
 
-    constant-apart : (t : List ℕ) (o : Operand) (os : Operands) (w : Value) → (operand_value (place m d env) o).result ≡ Ok w → equality (string t) w ≡ Some false
-        → is_constant t os ≡ false → is_constant t (operand o os) ≡ false
-    constant-apart t (text_constant s) os w e h more =
-        let same : w ≡ string s = cc in
-        let it : bytes_eq t s ≡ false = some_same (bytes_eq t s) false (subst (λ (x : Value). equality (string t) x ≡ Some false) same h) in rw it more
-      where
-        some_same : (a b : Bool) → Some a ≡ Some b → a ≡ b
-        some_same a b e = cc
-    constant-apart t _ os w e h more = more
+    constant-apart : (u : Value) (o : Operand) (os : Operands) (w : Value) → (operand_value (place m d env) o).result ≡ Ok w → equality u w ≡ Some false
+        → is_constant u os ≡ false → is_constant u (operand o os) ≡ false
+    constant-apart u (text_constant s) os w e h more = let same : w ≡ string s = cc in rw (same-told u w (string s) false same h) more
+    constant-apart u (bool_constant q) os w e h more = let same : w ≡ boolean q = cc in rw (same-told u w (boolean q) false same h) more
+    constant-apart u (number_constant q) os w e h more = let same : w ≡ number q = cc in rw (same-told u w (number q) false same h) more
+    constant-apart u _ os w e h more = more
 
     among-shown : (os : Operands) (ws : List Value) (u : Value) → are_constants os ≡ true → (operand_values (place m d env) os).result ≡ Ok ws
-        → equal_to_one u ws ≡ Some true → (is_nothing u ≡ false) × ((t : List ℕ) → u ≡ string t → is_constant t os ≡ true)
+        → equal_to_one u ws ≡ Some true → (is_nothing u ≡ false) × (is_constant u os ≡ true)
     among-shown no_operand ws u a e h = let same : ws ≡ [] = cc in absurd (by (subst (λ (xs : List Value). equal_to_one u xs ≡ Some true) same h))
       where
         by : equal_to_one u [] ≡ Some true → ⊥
@@ -1049,31 +1037,27 @@ module _ (base : Base) (N : Names) (means : Means base.defs N) (top : Value) whe
       where
         by : (w : Value) (vs : List Value) → tells true o ≡ true → (operand_value (place m d env) o).result ≡ Ok w → (r : Option Bool) → equality u w ≡ r
             → option_and_then (λ equal. if equal then Some true else equal_to_one u vs) r ≡ Some true
-            → (equal_to_one u vs ≡ Some true → (is_nothing u ≡ false) × ((t : List ℕ) → u ≡ string t → is_constant t os ≡ true))
-            → (is_nothing u ≡ false) × ((t : List ℕ) → u ≡ string t → is_constant t (operand o os) ≡ true)
+            → (equal_to_one u vs ≡ Some true → (is_nothing u ≡ false) × (is_constant u os ≡ true)) → (is_nothing u ≡ false) × (is_constant u (operand o os) ≡ true)
         by w vs is e None at i more = cc
-        by w vs is e (Some true) at i more = (
-          tell-thing true m d env o u w is e at,
-          λ t same. constant-first t o os w is e (subst (λ (x : Value). equality x w ≡ Some true) same at),
-        )
-        by w vs is e (Some false) at i more = let r = more i in (r.0, λ t same. constant-more t o os (r.1 t same))
+        by w vs is e (Some true) at i more = (tell-thing true m d env o u w is e at, constant-first u o os w is e at)
+        by w vs is e (Some false) at i more = let r = more i in (r.0, rw r.1 (or_true (is_named u o)))
 
-    apart-shown : (os : Operands) (ws : List Value) (t : List ℕ) → (operand_values (place m d env) os).result ≡ Ok ws → equal_to_one (string t) ws ≡ Some false
-        → is_constant t os ≡ false
-    apart-shown no_operand ws t e h = refl
-    apart-shown (operand o os) ws t e h =
+    apart-shown : (os : Operands) (ws : List Value) (u : Value) → (operand_values (place m d env) os).result ≡ Ok ws → equal_to_one u ws ≡ Some false
+        → is_constant u os ≡ false
+    apart-shown no_operand ws u e h = refl
+    apart-shown (operand o os) ws u e h =
         let x = operand_value (place m d env) o in
         let y = operand_values (place m d env) os in
         let g = values-ok x.result y.result x.made_text y.made_text ws e in
-        by g.0 g.1 g.2 (equality (string t) g.0) refl (subst (λ (xs : List Value). equal_to_one (string t) xs ≡ Some false) (sym g.4) h)
-        (λ i. apart-shown os g.1 t g.3 i)
+        by g.0 g.1 g.2 (equality u g.0) refl (subst (λ (xs : List Value). equal_to_one u xs ≡ Some false) (sym g.4) h)
+        (λ i. apart-shown os g.1 u g.3 i)
       where
-        by : (w : Value) (vs : List Value) → (operand_value (place m d env) o).result ≡ Ok w → (r : Option Bool) → equality (string t) w ≡ r
-            → option_and_then (λ equal. if equal then Some true else equal_to_one (string t) vs) r ≡ Some false
-            → (equal_to_one (string t) vs ≡ Some false → is_constant t os ≡ false) → is_constant t (operand o os) ≡ false
+        by : (w : Value) (vs : List Value) → (operand_value (place m d env) o).result ≡ Ok w → (r : Option Bool) → equality u w ≡ r
+            → option_and_then (λ equal. if equal then Some true else equal_to_one u vs) r ≡ Some false
+            → (equal_to_one u vs ≡ Some false → is_constant u os ≡ false) → is_constant u (operand o os) ≡ false
         by w vs e None at i more = cc
         by w vs e (Some true) at i more = cc
-        by w vs e (Some false) at i more = constant-apart t o os w e at (more i)
+        by w vs e (Some false) at i more = constant-apart u o os w e at (more i)
 
     nil-alone : (os : Operands) → is_nil_alone os ≡ true → os ≡ operand nil no_operand
     nil-alone (operand nil no_operand) e = refl
@@ -1097,7 +1081,7 @@ module _ (base : Base) (N : Names) (means : Means base.defs N) (top : Value) whe
         by false a is = cc
         by true a is =
             let same : is_among os ≡ test = cc in
-            let r = among-shown os ws u a e h in subst (λ (x : Test). Shows x u) same (λ y. r.0, passes-text (is_among os) u refl r.1)
+            let r = among-shown os ws u a e h in subst (λ (x : Test). Shows x u) same (λ y. r.0, passes-value (is_among os) u refl r.1)
     equal_test-shown false os ws u test e h is = by (is_nil_alone os) refl is
       where
         by : (b : Bool) → is_nil_alone os ≡ b → (if b then Some (has_least 0) else Some (is_apart os)) ≡ Some test → Shows test u
@@ -1112,7 +1096,7 @@ module _ (base : Base) (N : Names) (means : Means base.defs N) (top : Value) whe
             let same : is_apart os ≡ test = cc in
             subst (λ (x : Test). Shows x u) same (
               λ y. absurd (false≢true y),
-              passes-text (is_apart os) u refl (λ t at. ap not (apart-shown os ws t e (subst (λ (x : Value). equal_to_one x ws ≡ Some false) at h))),
+              passes-value (is_apart os) u refl (ap not (apart-shown os ws u e h)),
             )
 
     one-more : (o : Option Bool) (b : Bool) → o ≡ Some b → option_and_then (λ equal. if equal then Some true else Some false) o ≡ Some b
@@ -1144,12 +1128,12 @@ module _ (base : Base) (N : Names) (means : Means base.defs N) (top : Value) whe
         (g.1, g.2, sized-there g.1 g.0 l g.3 (counted-least f c g.0 n l v told t is))
 
     second-counts : (c : Bool) (f : Func) (o p q : Operand) (n l : ℕ) (u w v : Value) → (operand_value (place m d env) o).result ≡ Ok u → (operand_value (place m d env) p).result ≡ Ok w
-        → compared f u w ≡ Ok v → truth v ≡ c → operand_counts p ≡ Some q → count_of o ≡ Some n → least_by c (mirrored f) n ≡ Some l → Holds q (has_least l)
+        → compared f u w ≡ Ok v → truth v ≡ c → operand_counts p ≡ Some q → count_of o ≡ Some n → least_by c (mirror f) n ≡ Some l → Holds q (has_least l)
     second-counts c f o p q n l u w v x y e t counts counting is =
         let g = operand-counts p q w counts y in
         let same = count-ok m d env o n u counting x in
         let told : compared f (whole n) (whole g.0) ≡ Ok v = rw (same, g.4) e in
-        (g.1, g.2, sized-there g.1 g.0 l g.3 (mirrored-least f c g.0 n l v told t is))
+        (g.1, g.2, sized-there g.1 g.0 l g.3 (mirror-least f c g.0 n l v told t is))
 
     pair_fact-fits : (c : Bool) (f : Func) (o p : Operand) (k : State) (v : Value) → Fits k d env → call_value f (operand o (operand p no_operand)) ≡ Ok v → truth v ≡ c
         → Fits (narrow_as base (pair_fact c f o p) k) d env
@@ -1158,9 +1142,9 @@ module _ (base : Base) (N : Names) (means : Means base.defs N) (top : Value) whe
         let y = operand_value (place m d env) p in
         let g = two-ok f x.result y.result x.made_text y.made_text (operand_values (place m d env) (operand p no_operand)).made_text
         (operand_values (place m d env) (operand o (operand p no_operand))).made_text v e in
-        first_fact-fits (length_fact c f (operand_counts o) (count_of p)) (length_fact c (mirrored f) (operand_counts p) (count_of o)) k
+        first_fact-fits (length_fact c f (operand_counts o) (count_of p)) (length_fact c (mirror f) (operand_counts p) (count_of o)) k
         (length_fact-fits c f (operand_counts o) (count_of p) k h (λ q n l counts counting is. first-counts c f o p q n l g.0 g.1 v g.2 g.3 g.4 t counts counting is))
-        (length_fact-fits c (mirrored f) (operand_counts p) (count_of o) k h (λ q n l counts counting is. second-counts c f o p q n l g.0 g.1 v g.2 g.3 g.4 t counts counting is))
+        (length_fact-fits c (mirror f) (operand_counts p) (count_of o) k h (λ q n l counts counting is. second-counts c f o p q n l g.0 g.1 v g.2 g.3 g.4 t counts counting is))
 
     pairs-fit : (c : Bool) (f : Func) (o : Operand) (os : Operands) (k : State) (v : Value) → Fits k d env → call_value f (operand o os) ≡ Ok v → truth v ≡ c
         → Fits (narrow_as base (option_and_then (pair_fact c f o) (one_of os)) k) d env
@@ -1233,7 +1217,7 @@ module _ (base : Base) (N : Names) (means : Means base.defs N) (top : Value) whe
 
     piped-counts : (c : Bool) (os : Operands) (f : Func) (p o : Operand) (n l : ℕ) (u v : Value) → (command_value (place m d env) os None).result ≡ Ok u
         → (piped_value (operand (function f) (operand p no_operand)) u).result ≡ Ok v → truth v ≡ c
-        → counts_in (command_call os) ≡ Some o → count_of p ≡ Some n → least_by c (mirrored f) n ≡ Some l → Holds o (has_least l)
+        → counts_in (command_call os) ≡ Some o → count_of p ≡ Some n → least_by c (mirror f) n ≡ Some l → Holds o (has_least l)
     piped-counts c os f (number_constant (pos j)) o n l u v x e t counts counting is =
         let g = command-counts os o u counts x in
         let same : j ≡ n = cc in
@@ -1244,16 +1228,16 @@ module _ (base : Base) (N : Names) (means : Means base.defs N) (top : Value) whe
         let told = by_count-ok f (takes f (operand_count (operand p no_operand) + 1)) (by_function f all both any) v e in
         let it : without_null u ≡ whole g.0 = sym (ap without_null g.4) in
         let gives : all.result ≡ compared f (whole j) (whole g.0) = ap (λ (w : Value). compared f (whole j) w) it in
-        (g.1, g.2, sized-there g.1 g.0 l g.3 (piped-least f c g.0 j l all both any v gives told t (ap (least_by c (mirrored f)) same ∙ is)))
+        (g.1, g.2, sized-there g.1 g.0 l g.3 (piped-least f c g.0 j l all both any v gives told t (ap (least_by c (mirror f)) same ∙ is)))
     piped-counts c os f _ o n l u v x e t counts counting is = cc
 
     piped_fact-fits : (c : Bool) (os us : Operands) (k : State) (u v : Value) → Fits k d env → (command_value (place m d env) os None).result ≡ Ok u
         → (piped_value us u).result ≡ Ok v → truth v ≡ c → Fits (narrow_as base (piped_fact c (counts_in (command_call os)) (command_call us)) k) d env
     piped_fact-fits c os (operand (function f) (operand p no_operand)) k u v h x e t =
-        length_fact-fits c (mirrored f) (counts_in (command_call os)) (count_of p) k h
+        length_fact-fits c (mirror f) (counts_in (command_call os)) (count_of p) k h
         (λ o n l counts counting is. piped-counts c os f p o n l u v x e t counts counting is)
-    piped_fact-fits c os (operand (function f) no_operand) k u v h x e t = length_fact-fits c (mirrored f) (counts_in (command_call os)) None k h (λ o n l counts counting is. cc)
-    piped_fact-fits c os (operand (function f) (operand _ (operand _ _))) k u v h x e t = length_fact-fits c (mirrored f) (counts_in (command_call os)) None k h (λ o n l counts counting is. cc)
+    piped_fact-fits c os (operand (function f) no_operand) k u v h x e t = length_fact-fits c (mirror f) (counts_in (command_call os)) None k h (λ o n l counts counting is. cc)
+    piped_fact-fits c os (operand (function f) (operand _ (operand _ _))) k u v h x e t = length_fact-fits c (mirror f) (counts_in (command_call os)) None k h (λ o n l counts counting is. cc)
     piped_fact-fits c os (operand _ us) k u v h x e t = h
     piped_fact-fits c os no_operand k u v h x e t = h
 

@@ -5,7 +5,7 @@ ghost use Rattle.std.specs.Prelude.{◌≡◌, ◌^◌, ◌<◌, IfSome, false, 
 ghost use Rattle.std.specs.Option.{option_map};
 ghost use Rattle.tmpl_grammar.specs.View.{commands_in, operand_of, operands_in};
 ghost use Rattle.tmpl_schema.specs.computed.Check.{are_constants, are_texts, bounds_of, call_fact, call_place, chain_place, command_call, compare_fact, constant_test, count_of, counts_in, equal_test, first_fact, group_counts, group_place, head_of, index_place, is_nil_alone, key_of};
-ghost use Rattle.tmpl_schema.specs.computed.Check.{head_place, least_by, length_fact, mirrored, more_than, one_of, operand_counts, pair_fact, piped_fact, pipeline_call, pipeline_place, place_of, tells, text_of, texts_in, turned_by, turned_fact};
+ghost use Rattle.tmpl_schema.specs.computed.Check.{head_place, least_by, length_fact, mirror, more_than, one_of, operand_counts, pair_fact, piped_fact, pipeline_call, pipeline_place, place_of, tells, text_of, texts_in, turned_by, turned_fact};
 ghost use Rattle.tmpl_schema.specs.computed.View.{call_seen, fact_seen, head_seen, place_seen};
 ghost use Rattle.tmpl_shape.specs.computed.View.{key_seen, shape_seen, test_seen};
 
@@ -326,8 +326,8 @@ fn least_by(truth: bool, func: Func, number: u64) -> Option<u64>
 }
 
 /// The comparison of the second with the first that a comparison of the first with the second is.
-fn mirrored(func: Func) -> Func
-    ensures { result ≡ mirrored func }
+fn mirror(func: Func) -> Func
+    ensures { result ≡ mirror func }
 {
     match func {
         Func::Lt => Func::Gt,
@@ -426,12 +426,7 @@ fn pair_fact<'p>(
         ≡ pair_fact truth func (operand_of first.now) (operand_of second.now) }
 {
     let by_first = length_fact(truth, func, operand_counts(first), count_of(second));
-    let by_second = length_fact(
-        truth,
-        mirrored(func),
-        operand_counts(second),
-        count_of(first),
-    );
+    let by_second = length_fact(truth, mirror(func), operand_counts(second), count_of(first));
     first_fact(by_first, by_second)
 }
 
@@ -528,7 +523,7 @@ pub(crate) fn piped_fact<'p>(
         Some(operand) => count_of(operand),
         None => None,
     };
-    length_fact(full, mirrored(func), counted, number)
+    length_fact(full, mirror(func), counted, number)
 }
 
 /// The place of what a command gives whose operand after the first are these.

@@ -7,7 +7,8 @@ use Rattle.tmpl_shape.specs.Shape.{either, named, Names, HasShape}
 use Rattle.tmpl_shape.specs.declared.kind.Kind.{Kind}
 use Rattle.tmpl_shape.specs.declared.kind.Kind.TheVariants.{Blank, Truth, Number, Text, Many}
 use Rattle.tmpl_shape.specs.computed.Means.{Means}
-use Rattle.tmpl_shape.specs.computed.Shapes.{Base, may_be, has_kind}
+use Rattle.tmpl_shape.proofs.ConstantLemmas.{kind-has}
+use Rattle.tmpl_shape.specs.computed.Shapes.{Base, kind_shape, may_be, has_kind}
 
 abbrev pub kind_of : Value → Kind
 kind_of nothing = Blank
@@ -31,7 +32,7 @@ module _ (base : Base) (N : Names) (means : Means base.defs N) where
   may_be-has (suc n) truths (boolean b) h = refl
   may_be-has (suc n) numbers (number i) h = refl
   may_be-has (suc n) texts (string t) h = refl
-  may_be-has (suc n) (exactly s) (string t) h = refl
+  may_be-has (suc n) (exactly c) v h = may_be-has n (kind_shape c) v (kind-has N c v h)
   may_be-has (suc n) (list_of m s) (sequence vs) h = refl
   may_be-has (suc n) (record_of fs) (mapping es) h = refl
   may_be-has (suc n) (either s t) v h = elim h [

@@ -6,9 +6,10 @@ use Rattle.tmpl_grammar.specs.declared.tree.Binding.TheVariants as variants
 use Rattle.tmpl_grammar.specs.declared.tree.Pair as held_pair
 use Rattle.tmpl_shape.specs.Shape as spec
 use Rattle.tmpl_shape.specs.View.{fields_of, shape_of}
-use Rattle.tmpl_shape.specs.computed.Shapes.{Base, Test, blurred, gathered, gone_step, has_name, is_never, is_of_kind, kind_step, number_visit, plain_within, refine_step, some_along, text_within, visit}
+use Rattle.tmpl_shape.specs.computed.Shapes.{Base, Test, blurred, gathered, gone_step, has_name, is_never, is_of_kind, kind_step, number_visit, plain_within, refine_step, some_along, has_constant, visit}
+use Rattle.tmpl_shape.specs.declared.constant.Constant.{Constant}
 use Rattle.tmpl_shape.specs.declared.kind.Kind.{Kind}
-use Rattle.tmpl_shape.specs.declared.kind.Kind.TheVariants.{Many, Text}
+use Rattle.tmpl_shape.specs.declared.kind.Kind.TheVariants.{Many}
 use Rattle.tmpl_shape.specs.declared.shape.Shape as held
 use Rattle.tmpl_shape.specs.declared.shape.Shape.{the_lemmas}
 use Rattle.tmpl_shape.specs.declared.shape.Fields as held_fields
@@ -24,7 +25,7 @@ module _ (s : held.Shape) where
   NotList = (n : ℕ) (x : Box held.Shape Global) → s ≡ held.List n x → ⊥
 
   abbrev pub NotExactly : Type 0
-  NotExactly = (t : List ℕ) → s ≡ held.Exactly t → ⊥
+  NotExactly = (t : Constant) → s ≡ held.Exactly t → ⊥
 
   abbrev pub NotRecord : Type 0
   NotRecord = (fs : held_fields.Fields) → s ≡ held.Record fs → ⊥
@@ -38,15 +39,15 @@ module _ (s : held.Shape) where
 -- ---- kinds
 
 pub kind-leaf : (base : Base) (p : spec.Shape → Bool) (k : Kind) (s : held.Shape) → (s ≡ held.Never → ⊥) → (s ≡ held.Anything → ⊥) → NotEither s → NotNamed s
-    → kind_step base p k (shape_of s) ≡ is_of_kind k (shape_of s)
-kind-leaf base p k held.Never a b c d = absurd (a refl)
-kind-leaf base p k held.Anything a b c d = absurd (b refl)
-kind-leaf base p k (held.Either' x s y t) a b c d = absurd (c (box x s) (box y t) refl)
-kind-leaf base p k (held.Named x) a b c d = absurd (d x refl)
-kind-leaf base p k (held.List' n x s) a b c d = rw (list_seen n (box x s)) refl
-kind-leaf base p k (held.Record fs) a b c d = rw (record_seen fs) refl
-kind-leaf base p k (held.Exactly t) a b c d = rw (exactly_seen t) refl
-kind-leaf base p k _ a b c d = search (rules, the_lemmas)
+    → NotExactly s → kind_step base p k (shape_of s) ≡ is_of_kind k (shape_of s)
+kind-leaf base p k held.Never a b c d x = absurd (a refl)
+kind-leaf base p k held.Anything a b c d x = absurd (b refl)
+kind-leaf base p k (held.Either' q s y t) a b c d x = absurd (c (box q s) (box y t) refl)
+kind-leaf base p k (held.Named y) a b c d x = absurd (d y refl)
+kind-leaf base p k (held.List' n q s) a b c d x = rw (list_seen n (box q s)) refl
+kind-leaf base p k (held.Record fs) a b c d x = rw (record_seen fs) refl
+kind-leaf base p k (held.Exactly t) a b c d x = absurd (x t refl)
+kind-leaf base p k _ a b c d x = search (rules, the_lemmas)
 
 pub not-many : (s : held.Shape) → NotList s → NotRecord s → is_of_kind Many (shape_of s) ≡ false
 not-many (held.Either' x s y t) a b = ap (is_of_kind Many) (either_seen (box x s) (box y t))
@@ -56,16 +57,7 @@ not-many (held.List' n x s) a b = absurd (a n (box x s) refl)
 not-many (held.Record fs) a b = absurd (b fs refl)
 not-many _ a b = search (rules, the_lemmas)
 
-pub not-text : (s : held.Shape) → (s ≡ held.Texts → ⊥) → NotExactly s → is_of_kind Text (shape_of s) ≡ false
-not-text held.Texts a b = absurd (a refl)
-not-text (held.Exactly t) a b = absurd (b t refl)
-not-text (held.Either' x s y t) a b = ap (is_of_kind Text) (either_seen (box x s) (box y t))
-not-text (held.Named x) a b = ap (is_of_kind Text) (named_seen x)
-not-text (held.List' n x s) a b = ap (is_of_kind Text) (list_seen n (box x s))
-not-text (held.Record fs) a b = ap (is_of_kind Text) (record_seen fs)
-not-text _ a b = search (rules, the_lemmas)
-
-pub ruleset kinds = (kind-leaf, not-many, not-text)
+pub ruleset kinds = (kind-leaf, not-many)
 
 -- ---- inclusion
 
@@ -139,16 +131,19 @@ not-plain w (held.Named y) t a b c d e x f g = rw (named_seen y) refl
 not-plain w held.Never t a b c d e x f g = rw never_seen refl
 not-plain w held.Anything t a b c d e x f g = rw anything_seen refl
 
-pub not-exactly : (x : List ℕ) (t : held.Shape) → (t ≡ held.Texts → ⊥) → NotExactly t → text_within x (shape_of t) ≡ false
-not-exactly x held.Texts a b = absurd (a refl)
-not-exactly x (held.Exactly t) a b = absurd (b t refl)
-not-exactly x (held.Either' p s q u) a b = ap (text_within x) (either_seen (box p s) (box q u))
-not-exactly x (held.Named y) a b = ap (text_within x) (named_seen y)
-not-exactly x (held.List' n p s) a b = ap (text_within x) (list_seen n (box p s))
-not-exactly x (held.Record fs) a b = ap (text_within x) (record_seen fs)
-not-exactly x _ a b = search (rules, the_lemmas)
+pub no-constant : (x : Constant) (t : held.Shape) → NotExactly t → (t ≡ held.Truths → ⊥) → (t ≡ held.Numbers → ⊥) → (t ≡ held.Texts → ⊥)
+    → has_constant (shape_of t) x ≡ false
+no-constant x held.Truths a b c d = absurd (b refl)
+no-constant x held.Numbers a b c d = absurd (c refl)
+no-constant x held.Texts a b c d = absurd (d refl)
+no-constant x (held.Exactly t) a b c d = absurd (a t refl)
+no-constant x (held.Either' p s q u) a b c d = ap (λ s. has_constant s x) (either_seen (box p s) (box q u))
+no-constant x (held.Named y) a b c d = ap (λ s. has_constant s x) (named_seen y)
+no-constant x (held.List' n p s) a b c d = ap (λ s. has_constant s x) (list_seen n (box p s))
+no-constant x (held.Record fs) a b c d = ap (λ s. has_constant s x) (record_seen fs)
+no-constant x _ a b c d = search (rules, the_lemmas)
 
-pub ruleset plain = (list-plain, record-plain, not-plain, not-exactly)
+pub ruleset plain = (list-plain, record-plain, not-plain, no-constant)
 
 pub is-end : (fs : held_fields.Fields) → ((f : Box held_field.Field Global) → fs ≡ held_fields.Field f → ⊥) → IsEnd (fields_of fs)
 is-end held_fields.Closed a = subst IsEnd (sym closed_seen) tt

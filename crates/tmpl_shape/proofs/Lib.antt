@@ -1,3 +1,4 @@
+pub mod ConstantLemmas
 pub mod KindLemmas
 pub mod ShapeLemmas
 pub mod NameLemmas

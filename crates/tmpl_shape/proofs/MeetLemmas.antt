@@ -4,15 +4,17 @@ use Rattle.std.proofs.Math.Nat.{max-le}
 use Rattle.std.specs.Option.{option_map_or}
 use Rattle.std.specs.Str.{bytes_eq}
 use Rattle.std.proofs.lemmas.Bool.{false≢true}
-use Rattle.std.proofs.lemmas.Slice.Eq.{bytes_eq-Decides}
 use Rattle.tmpl_values.specs.Value.{Value, nothing, null, boolean, number, string, sequence, mapping, Items, no_item, item, Entries, no_entry, entry}
 use Rattle.tmpl_shape.specs.Shape as spec
-use Rattle.tmpl_shape.specs.Shape.{Shape, Names, Fields, no_field, others, field, EachItem, EachEntry, HasRequired, HasShape, IsField}
+use Rattle.tmpl_shape.specs.Shape.{Shape, Names, Fields, no_field, others, field, EachItem, EachEntry, HasRequired, HasShape, IsField, value_of}
 use Rattle.tmpl_shape.specs.View.{shape_of}
 use Rattle.tmpl_shape.specs.computed.Meet.{each_part, is_first_open, is_open, leaf_within, meet, meet_forms, meet_leaf, meet_one, rest_shape, with_met, with_unlisted}
 use Rattle.tmpl_shape.specs.computed.Meet.{meet_fields, meet_rest, or_shape}
-use Rattle.tmpl_shape.specs.computed.Shapes.{is_listed, is_never, is_required, shape_at}
+use Rattle.tmpl_shape.specs.computed.Shapes.{has_constant, is_listed, is_never, is_required, is_same, shape_at}
 use Rattle.tmpl_shape.proofs.ShapeLemmas.{neither, or_cases, required-has, same_name}
+use Rattle.tmpl_shape.specs.declared.constant.Constant.{Constant}
+use Rattle.tmpl_shape.specs.declared.constant.Constant.TheVariants as constant
+use Rattle.tmpl_shape.proofs.ConstantLemmas.{is-same}
 use Rattle.tmpl_shape.specs.declared.shape.Shape as held
 use Rattle.tmpl_shape.specs.declared.shape.Shape.{the_lemmas}
 use Rattle.tmpl_shape.specs.declared.shape.Fields as held_fields
@@ -288,10 +290,29 @@ module _ (N : Names) where
 
     -- ---- shapes of one kind
 
-    same-text : (x y z : List ℕ) → z ≡ x → z ≡ y → HasShape N (meet_leaf (spec.exactly x) (spec.exactly y)) (string z)
-    same-text x y z h k = rw ((bytes_eq-Decides x y).1 (sym h ∙ k)) h
+    -- where one of the two is a constant
+    held-constant : (t : Shape) (c : Constant) → Holds t (value_of c) → has_constant t c ≡ true
+    held-constant spec.truths (constant.Bool b) h = refl
+    held-constant spec.numbers (constant.Number n) h = refl
+    held-constant spec.texts (constant.Text s) h = refl
+    held-constant (spec.exactly d) c h = subst (λ (v : Value). is_same (value_of c) v ≡ true) h (is-same c)
+    held-constant t (constant.Bool b) h = absurd h
+    held-constant t (constant.Number n) h = absurd h
+    held-constant t (constant.Text s) h = absurd h
+
+    constant-met : (s : Shape) (d : Constant) (v : Value) → leaf_within s (spec.exactly d) ≡ false → Holds s v → v ≡ value_of d
+        → HasShape N (meet_leaf s (spec.exactly d)) v
+    constant-met s d v e h k = rw (e, held-constant s d (subst (Holds s) k h)) k
 
     forms-has : (s t : Shape) (v : Value) → Holds s v → Holds t v → HasShape N (meet_forms m s t) v
+    forms-has (spec.exactly c) t v h k = rw (held-constant t c (subst (Holds t) h k)) h
+    forms-has spec.nothings (spec.exactly d) v h k = constant-met spec.nothings d v refl h k
+    forms-has spec.nulls (spec.exactly d) v h k = constant-met spec.nulls d v refl h k
+    forms-has spec.truths (spec.exactly d) v h k = constant-met spec.truths d v refl h k
+    forms-has spec.numbers (spec.exactly d) v h k = constant-met spec.numbers d v refl h k
+    forms-has spec.texts (spec.exactly d) v h k = constant-met spec.texts d v refl h k
+    forms-has (spec.list_of n s) (spec.exactly d) v h k = constant-met (spec.list_of n s) d v refl h k
+    forms-has (spec.record_of fs) (spec.exactly d) v h k = constant-met (spec.record_of fs) d v refl h k
     forms-has spec.nothings spec.nothings v h k = h
     forms-has spec.nothings t nothing h k = absurd k
     forms-has spec.nothings t v h k = absurd h
@@ -305,13 +326,8 @@ module _ (N : Names) where
     forms-has spec.numbers t (number n) h k = absurd k
     forms-has spec.numbers t v h k = absurd h
     forms-has spec.texts spec.texts v h k = h
-    forms-has spec.texts (spec.exactly y) v h k = k
     forms-has spec.texts t (string z) h k = absurd k
     forms-has spec.texts t v h k = absurd h
-    forms-has (spec.exactly x) spec.texts v h k = h
-    forms-has (spec.exactly x) (spec.exactly y) (string z) h k = same-text x y z h k
-    forms-has (spec.exactly x) t (string z) h k = absurd k
-    forms-has (spec.exactly x) t v h k = absurd h
     forms-has (spec.list_of n s) (spec.list_of i t) (sequence vs) h k = (max-le h.0 k.0, both-items s t vs h.1 k.1)
     forms-has (spec.list_of n s) t (sequence vs) h k = absurd k
     forms-has (spec.list_of n s) t v h k = absurd h

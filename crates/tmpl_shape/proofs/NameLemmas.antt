@@ -31,8 +31,7 @@ module _ (N M : Names) (below : Below N M) where
     shape-on numbers _ h = absurd h
     shape-on texts (string t) h = tt
     shape-on texts _ h = absurd h
-    shape-on (exactly t) (string s) h = h
-    shape-on (exactly t) _ h = absurd h
+    shape-on (exactly c) v h = h
     shape-on (list_of n s) (sequence vs) h = (h.0, items-on (HasShape N s) (HasShape M s) (shape-on s) vs h.1)
     shape-on (list_of n s) _ h = absurd h
     shape-on (record_of fs) (mapping es) h = (h.0, entries-on (IsField N fs) (IsField M fs) (field-on fs) es h.1, h.2)
@@ -118,8 +117,7 @@ module _ (defs : Defs) where
     bounded numbers _ h = absurd h
     bounded texts (string t) h = (0, tt)
     bounded texts _ h = absurd h
-    bounded (exactly t) (string s) h = (0, h)
-    bounded (exactly t) _ h = absurd h
+    bounded (exactly c) v h = (0, h)
     bounded never v h = absurd h
 
     field-bounded : (fs : Fields) (k : List ℕ) (v : Value) → IsField (stands_for defs) fs k v → Bounded (λ N. IsField N fs k v)

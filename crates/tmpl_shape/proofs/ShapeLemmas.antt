@@ -5,7 +5,7 @@ use Rattle.std.proofs.lemmas.Bool.{false≢true, and_parts, leb-true}
 use Rattle.std.proofs.lemmas.Slice.Eq.{bytes_eq-Decides}
 use Rattle.std.specs.Option.{option_map_or}
 use Rattle.std.specs.Str.{bytes_eq}
-use Rattle.tmpl_values.specs.Value.{Value, string, sequence, mapping, Items, no_item, item}
+use Rattle.tmpl_values.specs.Value.{Value, sequence, mapping, Items, no_item, item}
 use Rattle.tmpl_values.specs.Value.{Entries, no_entry, entry}
 use Rattle.tmpl_values.specs.Field.{entry_at}
 use Rattle.tmpl_shape.specs.Shape.{Shape, never, nothings, nulls, truths, numbers, texts, exactly, anything, list_of, record_of}
@@ -14,7 +14,8 @@ use Rattle.tmpl_shape.specs.Shape.{EachItem, EachEntry, HasRequired, HasShape, I
 use Rattle.tmpl_shape.specs.computed.Means.{Means}
 use Rattle.tmpl_shape.specs.computed.Shapes.{Base, shape_at, is_required, requires_all, is_listed, others_within}
 use Rattle.tmpl_shape.specs.computed.Shapes.{fields_along, fields_within, record_within, each_along, has_name, if_more, plain_within, some_along, some_part, within_by}
-use Rattle.tmpl_shape.specs.computed.Shapes.{blurred, within, join}
+use Rattle.tmpl_shape.specs.computed.Shapes.{blurred, spread, within, join}
+use Rattle.tmpl_shape.proofs.ConstantLemmas.{constant-has, kind-has}
 
 pub or_cases : (a c : Bool) → (a || c) ≡ true → (a ≡ true) ⊎ (c ≡ true)
 or_cases true c e = inl refl
@@ -173,11 +174,7 @@ module _ (N : Names) where
   plain_within-has w f numbers _ v e h = absurd (false≢true e)
   plain_within-has w f texts texts v e h = h
   plain_within-has w f texts _ v e h = absurd (false≢true e)
-  plain_within-has w f (exactly s) texts (string u) e h = tt
-  plain_within-has w f (exactly s) (exactly t) (string u) e h = h ∙ same_name s t e
-  plain_within-has w f (exactly s) texts _ e h = absurd h
-  plain_within-has w f (exactly s) (exactly t) _ e h = absurd h
-  plain_within-has w f (exactly s) _ v e h = absurd (false≢true e)
+  plain_within-has w f (exactly c) t v e h = subst (HasShape N t) (sym h) (constant-has N t c e)
   plain_within-has w f (list_of n s) (list_of m t) (sequence vs) e h =
       let p = and_parts (nat_le m n) (w s t) e in
       let fewer = leb-true m n p.0 in (omega (arith, h.0), items-has (HasShape N s) (HasShape N t) (λ v. f s t v p.1) vs h.1)
@@ -268,12 +265,15 @@ module _ (base : Base) (N : Names) (means : Means base.defs N) where
       by false true e = within-has t s v e h
       by false false e = inr h
 
-  pub blurred-has : (s : Shape) (v : Value) → HasShape N s v → HasShape N (blurred base s) v
-  blurred-has (exactly t) (string s) h = tt
-  blurred-has (exactly t) _ h = absurd h
-  blurred-has (either s t) v h = by (within base (either s t) texts) refl
+  spread-has : (s kind t : Shape) (v : Value) → HasShape N s v → HasShape N t v → HasShape N (spread base s kind t) v
+  spread-has s kind t v h g = by (within base s kind) refl
     where
-      by : (b : Bool) → within base (either s t) texts ≡ b → HasShape N (if b then texts else either s t) v
-      by true e = within-has (either s t) texts v e h
-      by false e = h
+      by : (b : Bool) → within base s kind ≡ b → HasShape N (if b then kind else t) v
+      by true e = within-has s kind v e h
+      by false e = g
+
+  pub blurred-has : (s : Shape) (v : Value) → HasShape N s v → HasShape N (blurred base s) v
+  blurred-has (exactly c) v h = kind-has N c v h
+  blurred-has (either s t) v h = spread-has (either s t) texts (spread base (either s t) numbers (spread base (either s t) truths (either s t))) v h
+      (spread-has (either s t) numbers (spread base (either s t) truths (either s t)) v h (spread-has (either s t) truths (either s t) v h h))
   blurred-has s v h = h

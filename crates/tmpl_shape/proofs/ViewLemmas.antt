@@ -2,6 +2,7 @@
 use Rattle.std.proofs.Common.{rules, ◌≡◌, ◌+◌, List, ℕ, suc, Box, Global}
 use Rattle.tmpl_shape.specs.Shape as spec
 use Rattle.tmpl_shape.specs.View.{fields_of, shape_of}
+use Rattle.tmpl_shape.specs.declared.constant.Constant.{Constant}
 use Rattle.tmpl_shape.specs.declared.shape.Shape as held
 use Rattle.tmpl_shape.specs.declared.shape.Shape.{the_lemmas}
 use Rattle.tmpl_shape.specs.declared.shape.Fields as held_fields
@@ -43,7 +44,7 @@ numbers_seen = search (rules, the_lemmas)
 pub texts_seen : shape_of held.Texts ≡ spec.texts
 texts_seen = search (rules, the_lemmas)
 
-pub exactly_seen : (t : List ℕ) → shape_of (held.Exactly t) ≡ spec.exactly t
+pub exactly_seen : (t : Constant) → shape_of (held.Exactly t) ≡ spec.exactly t
 exactly_seen t = search (rules, the_lemmas)
 
 pub anything_seen : shape_of held.Anything ≡ spec.anything

@@ -5,6 +5,8 @@ use Rattle.tmpl_values.specs.Value.{Value, nothing, null, boolean, number, strin
 use Rattle.tmpl_values.specs.Value.{item, Entries, no_entry, entry}
 use Rattle.tmpl_values.specs.Elements.{values_of_items}
 use Rattle.tmpl_values.specs.Field.{entry_at}
+use Rattle.tmpl_shape.specs.declared.constant.Constant.{Constant}
+use Rattle.tmpl_shape.specs.declared.constant.Constant.TheVariants as constant
 
 mutual
   pub data Shape : Type 0 where
@@ -16,8 +18,8 @@ mutual
     truths : Shape
     numbers : Shape
     texts : Shape
-    -- this string alone
-    exactly : List ℕ → Shape
+    -- this value alone
+    exactly : Constant → Shape
     -- each value
     anything : Shape
     -- sequences of at least as many such values
@@ -54,6 +56,11 @@ HasRequired no_field es = Unit {0}
 HasRequired (others s) es = Unit {0}
 HasRequired (field name required s fs) es = (required ≡ true → IsSome (entry_at name es)) × HasRequired fs es
 
+abbrev pub value_of : Constant → Value
+value_of (constant.Bool b) = boolean b
+value_of (constant.Number n) = number n
+value_of (constant.Text s) = string s
+
 -- which values a name stands for
 abbrev pub Names : Type 1
 Names = List ℕ → Value → Type 0
@@ -66,7 +73,7 @@ abbrev mutual
   HasShape N truths (boolean b) = Unit {0}
   HasShape N numbers (number n) = Unit {0}
   HasShape N texts (string s) = Unit {0}
-  HasShape N (exactly t) (string s) = s ≡ t
+  HasShape N (exactly c) v = v ≡ value_of c
   HasShape N (list_of n s) (sequence vs) = (n ≤ length (values_of_items vs)) × EachItem (HasShape N s) vs
   HasShape N (record_of fs) (mapping es) = AreDistinct es × EachEntry (IsField N fs) es × HasRequired fs es
   HasShape N (either a b) v = HasShape N a v ⊎ HasShape N b v

@@ -2,6 +2,7 @@
 ghost use Rattle.std.specs.Prelude.{◌≡◌};
 ghost use Rattle.tmpl_shape.specs.declared.cause.Trouble.TheVariants as trouble;
 
+use crate::constant::Constant;
 use crate::shape::Shape;
 use std::alloc::{AllocError, AllocFailed, Global};
 use tmpl_funcs::Func;
@@ -74,9 +75,9 @@ pub(crate) fn kind_word(shape: &Shape) -> &'static str {
         Shape::Never => "no value",
         Shape::Nothings => "nothing",
         Shape::Nulls => "null",
-        Shape::Truths => "a boolean",
-        Shape::Numbers => "a number",
-        Shape::Texts | Shape::Exactly(_) => "a text",
+        Shape::Truths | Shape::Exactly(Constant::Bool(_)) => "a boolean",
+        Shape::Numbers | Shape::Exactly(Constant::Number(_)) => "a number",
+        Shape::Texts | Shape::Exactly(Constant::Text(_)) => "a text",
         Shape::Anything => "any value",
         Shape::List { .. } => "a list",
         Shape::Record(_) => "a map",

@@ -4,16 +4,17 @@
 ghost use Rattle.std.specs.Prelude.{◌≡◌, IfOk};
 ghost use Rattle.tmpl_shape.specs.View.{fields_of, shape_of};
 ghost use Rattle.tmpl_shape.specs.computed.Shapes.{fill, is_never, join, null_gone, null_gone_by, refine, refine_by};
-ghost use Rattle.tmpl_shape.specs.computed.Shapes.{refine_record, refine_text, with_field, with_first, with_refined};
+ghost use Rattle.tmpl_shape.specs.computed.Shapes.{refine_constant, refine_record, with_field, with_first, with_refined};
 ghost use Rattle.tmpl_shape.specs.computed.View.{base_of, test_seen};
 
+use crate::constant::Constant;
 use crate::inclusion::{find, is_required, shape_at, within};
 use crate::kind::{Kind, has_kind};
 use crate::shape::{
     Base, Fields, Shape, copy_counted, copy_fields, copy_name, copy_shape, either, fields_of_all,
     list_of, put_field, weight_of_fields,
 };
-use crate::test::{Test, least_of, lets_text, shows_there};
+use crate::test::{Test, least_of, lets_value, shows_there};
 use std::alloc::{AllocError, Global};
 use tmpl_values::Bytes;
 
@@ -119,23 +120,23 @@ pub fn is_never(shape: &Shape) -> bool
     matches!(shape, Shape::Never)
 }
 
-/// Of the strings that are this one.
-fn refine_text(
+/// Of the values that are this constant.
+fn refine_constant(
     alloc: Global,
     test: Test<'_>,
     names: &[Bytes],
-    text: &[u8],
+    constant: &Constant,
 ) -> Result<Shape, AllocError>
-    ensures { IfOk result (λ s. shape_of s ≡ refine_text (test_seen test.entry) names.now text.now) }
+    ensures { IfOk result (λ s. shape_of s ≡ refine_constant (test_seen test.entry) names.now constant.now) }
 {
     match names {
         [] => {
-            if lets_text(test, text) {
-                return Ok(Shape::Exactly(copy_name(alloc, text)?));
+            if lets_value(test, constant) {
+                return Ok(Shape::Exactly(constant.copy(alloc)?));
             }
             Ok(Shape::Never)
         }
-        [_, _rest @ ..] => Ok(Shape::Exactly(copy_name(alloc, text)?)),
+        [_, _rest @ ..] => Ok(Shape::Exactly(constant.copy(alloc)?)),
     }
 }
 
@@ -163,7 +164,7 @@ fn refine_by(
             }
             copy_counted(base, shape)
         }
-        Shape::Exactly(text) => refine_text(base.alloc, test, names, text.as_slice()),
+        Shape::Exactly(constant) => refine_constant(base.alloc, test, names, constant),
         Shape::List { least, items } => {
             let items = copy_counted(base, items)?;
             list_of(base.alloc, (*least).max(least_of(test)), items)

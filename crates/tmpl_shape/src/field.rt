@@ -52,16 +52,22 @@ fn no_fields(alloc: Global, name: &[u8], shape: &Shape) -> Trouble {
     }
 }
 
-/// Values of which it is not followed which strings there are, where there are only strings.
+/// Values of which it is not followed which constants there are, where all are of one kind.
 #[tactic(auto, using(crate::proofs::ViewLemmas::parts, crate::proofs::LeafLemmas::blurs))]
 fn blurred(base: &Base<'_>, shape: &Shape) -> Result<Shape, AllocError>
     ensures { IfOk result (λ s. shape_of s ≡ blurred (base_of base.now) (shape_of shape.now)) }
 {
     match shape {
-        Shape::Exactly(_) => Ok(Shape::Texts),
+        Shape::Exactly(constant) => Ok(constant.kind()),
         Shape::Either(..) => {
             if within(base, shape, &Shape::Texts) {
                 return Ok(Shape::Texts);
+            }
+            if within(base, shape, &Shape::Numbers) {
+                return Ok(Shape::Numbers);
+            }
+            if within(base, shape, &Shape::Truths) {
+                return Ok(Shape::Truths);
             }
             copy_counted(base, shape)
         }

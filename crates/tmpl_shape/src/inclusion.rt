@@ -4,9 +4,10 @@
 ghost use Rattle.std.specs.Prelude.{◌≡◌};
 ghost use Rattle.tmpl_shape.specs.View.{defs_in, fields_of, shape_of};
 ghost use Rattle.tmpl_shape.specs.computed.Shapes.{fields_along, fields_within, has_name, is_listed, is_required, others_within};
-ghost use Rattle.tmpl_shape.specs.computed.Shapes.{plain_within, record_within, requires_all, shape_at, some_part, text_within, within, within_by};
+ghost use Rattle.tmpl_shape.specs.computed.Shapes.{plain_within, record_within, requires_all, shape_at, some_part, has_constant, within, within_by};
 ghost use Rattle.tmpl_shape.specs.computed.View.{base_of, name_within, shape_seen};
 
+use crate::constant::Constant;
 use crate::shape::{Base, Fields, Shape};
 
 /// The shape of the first definition of a name, which is some work where there are many.
@@ -176,14 +177,16 @@ fn some_part(
     }
 }
 
-/// Whether this string has a shape of one kind.
+/// Whether a shape of one kind has this constant.
 #[tactic(auto, using(crate::proofs::ViewLemmas::parts, crate::proofs::LeafLemmas::plain))]
-pub(crate) fn text_within(text: &[u8], other: &Shape) -> bool
-    ensures { result ≡ text_within text.now (shape_of other.now) }
+pub(crate) fn has_constant(shape: &Shape, constant: &Constant) -> bool
+    ensures { result ≡ has_constant (shape_of shape.now) constant.now }
 {
-    match other {
-        Shape::Texts => true,
-        Shape::Exactly(only) => text == only.as_slice(),
+    match shape {
+        Shape::Exactly(only) => constant.is_same(only),
+        Shape::Truths => matches!(constant, Constant::Bool(_)),
+        Shape::Numbers => matches!(constant, Constant::Number(_)),
+        Shape::Texts => matches!(constant, Constant::Text(_)),
         _ => false,
     }
 }
@@ -201,7 +204,7 @@ fn plain_within(base: &Base<'_>, names: usize, steps: usize, one: &Shape, other:
         (Shape::Truths, Shape::Truths) => true,
         (Shape::Numbers, Shape::Numbers) => true,
         (Shape::Texts, Shape::Texts) => true,
-        (Shape::Exactly(text), _) => text_within(text.as_slice(), other),
+        (Shape::Exactly(constant), _) => has_constant(other, constant),
         (
             Shape::List { least, items },
             Shape::List {

@@ -11,7 +11,7 @@ ghost use Rattle.tmpl_shape.specs.computed.View.{shape_seen};
 ghost use Rattle.tmpl_shape.specs.declared.intersection.Unmet.TheVariants as unmet;
 
 use crate::change::is_never;
-use crate::inclusion::{is_listed, is_required, shape_at, text_within};
+use crate::inclusion::{has_constant, is_listed, is_required, shape_at};
 use crate::shape::{Base, Fields, Shape, copy_counted, either, fields_of_all, list_of, put_field};
 use std::alloc::{AllocError, Global};
 
@@ -111,7 +111,7 @@ fn leaf_within(one: &Shape, other: &Shape) -> bool
         (Shape::Truths, Shape::Truths) => true,
         (Shape::Numbers, Shape::Numbers) => true,
         (Shape::Texts, Shape::Texts) => true,
-        (Shape::Exactly(text), _) => text_within(text.as_slice(), other),
+        (Shape::Exactly(constant), _) => has_constant(other, constant),
         _ => false,
     }
 }

@@ -42,7 +42,7 @@ fn is_of_kind(kind: Kind, shape: &Shape) -> bool
         Kind::Blank => matches!(shape, Shape::Nothings | Shape::Nulls),
         Kind::Truth => matches!(shape, Shape::Truths),
         Kind::Number => matches!(shape, Shape::Numbers),
-        Kind::Text => matches!(shape, Shape::Texts | Shape::Exactly(_)),
+        Kind::Text => matches!(shape, Shape::Texts),
         Kind::Many => matches!(shape, Shape::List { .. } | Shape::Record(_)),
     }
 }
@@ -65,6 +65,7 @@ fn may_be(base: &Base<'_>, steps: usize, kind: Kind, shape: &Shape) -> bool
             Some(shape) => may_be(base, fewer, kind, shape),
             None => true,
         },
+        Shape::Exactly(constant) => may_be(base, fewer, kind, &constant.kind()),
         _ => is_of_kind(kind, shape),
     }
 }

@@ -4,6 +4,7 @@
 mod call;
 mod cause;
 mod change;
+mod constant;
 mod effort;
 mod field;
 mod format;
@@ -18,6 +19,7 @@ mod visit;
 pub use call::call_shape;
 pub use cause::{Cause, Trouble};
 pub use change::{fill, is_never, join, null_gone, refine};
+pub use constant::Constant;
 pub use effort::Effort;
 pub use field::{AbsentField, Key, chain_shape, index_shape};
 pub use format::printf_shape;

@@ -64,7 +64,8 @@ fn part_shape_by(
     let fewer = steps - 1;
     match shape {
         Shape::Never => Ok(Shape::Never),
-        Shape::Texts | Shape::Exactly(_) => text_part(base, from, to),
+        Shape::Texts => text_part(base, from, to),
+        Shape::Exactly(constant) => part_shape_by(base, fewer, from, to, &constant.kind()),
         Shape::List { least, items } => list_part(base, from, to, *least, items),
         Shape::Either(one, other) => {
             let one = part_shape_by(base, fewer, from, to, one)?;

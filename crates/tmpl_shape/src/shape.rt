@@ -8,6 +8,7 @@ ghost use Rattle.tmpl_shape.specs.View.{fields_of, shape_of};
 ghost use Rattle.tmpl_shape.specs.computed.Shapes.{first_in, gathered, onto};
 ghost use Rattle.tmpl_shape.specs.computed.View.{first_seen};
 
+use crate::constant::Constant;
 use crate::effort::Effort;
 use std::alloc::{AllocError, Global};
 use std::mem;
@@ -29,8 +30,8 @@ pub enum Shape {
     Numbers,
     /// Texts.
     Texts,
-    /// This string alone.
-    Exactly(Bytes),
+    /// This constant alone.
+    Exactly(Constant),
     /// Each value.
     Anything,
     /// Lists of at least as many such items.
@@ -141,7 +142,7 @@ pub fn copy_shape(alloc: Global, shape: &Shape) -> Result<Shape, AllocError>
         Shape::Truths => Ok(Shape::Truths),
         Shape::Numbers => Ok(Shape::Numbers),
         Shape::Texts => Ok(Shape::Texts),
-        Shape::Exactly(text) => Ok(Shape::Exactly(copy_name(alloc, text.as_slice())?)),
+        Shape::Exactly(constant) => Ok(Shape::Exactly(constant.copy(alloc)?)),
         Shape::Anything => Ok(Shape::Anything),
         Shape::List { least, items } => copy_list(alloc, *least, items),
         Shape::Record(fields) => copy_record(alloc, fields),

@@ -1,15 +1,17 @@
 //! What tests show of values.
 ghost use Rattle.std.specs.Prelude.{◌≡◌};
 ghost use Rattle.tmpl_grammar.specs.View.{operands_in};
-ghost use Rattle.tmpl_shape.specs.computed.Shapes.{is_constant, least_of, lets_text, shows_there};
+ghost use Rattle.tmpl_shape.specs.Shape.{value_of};
+ghost use Rattle.tmpl_shape.specs.computed.Shapes.{is_constant, least_of, lets_value, shows_there};
 ghost use Rattle.tmpl_shape.specs.computed.View.{test_seen};
 
+use crate::constant::Constant;
 use tmpl_grammar::Operand;
 
 /// What is shown of a value.
 #[derive(Clone, Copy)]
 pub enum Test<'t> {
-    /// It is neither nothing nor null, and has at least as many items if it is a list.
+    /// It is neither nothing nor null, has at least as many items if it is a list, and is not empty where that is one or more.
     There(u64),
     /// It is one of these constants, none of which is `nil`.
     Among(&'t [Operand]),
@@ -37,25 +39,23 @@ pub(crate) fn least_of(test: Test<'_>) -> u64
     }
 }
 
-/// Whether a string is one of the constants.
-fn is_constant(text: &[u8], operands: &[Operand]) -> bool
-    ensures { result ≡ is_constant text.now (operands_in operands.now) }
+/// Whether it is one of the constants among these.
+fn is_constant(constant: &Constant, operands: &[Operand]) -> bool
+    ensures { result ≡ is_constant (value_of constant.now) (operands_in operands.now) }
 {
     match operands {
         [] => false,
-        [Operand::Text(constant), rest @ ..] => text == constant.as_slice()
-            || is_constant(text, rest),
-        [_, rest @ ..] => is_constant(text, rest),
+        [first, rest @ ..] => constant.is_named(first) || is_constant(constant, rest),
     }
 }
 
-/// Whether a value may be this string.
-pub(crate) fn lets_text(test: Test<'_>, text: &[u8]) -> bool
-    ensures { result ≡ lets_text (test_seen test.entry) text.now }
+/// Whether a value may be this constant.
+pub(crate) fn lets_value(test: Test<'_>, constant: &Constant) -> bool
+    ensures { result ≡ lets_value (test_seen test.entry) (value_of constant.now) }
 {
     match test {
-        Test::There(_) => true,
-        Test::Among(operands) => is_constant(text, operands),
-        Test::Apart(operands) => !is_constant(text, operands),
+        Test::There(least) => least == 0 || constant.is_true(),
+        Test::Among(operands) => is_constant(constant, operands),
+        Test::Apart(operands) => !is_constant(constant, operands),
     }
 }

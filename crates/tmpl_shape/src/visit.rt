@@ -65,6 +65,7 @@ fn visit_by(
             element: Shape::Never,
         }),
         Shape::Numbers => number_visit(base, binding),
+        Shape::Exactly(constant) => visit_by(base, fewer, binding, &constant.kind()),
         Shape::List { items, .. } => Ok(Visit {
             key: Shape::Numbers,
             element: copy_counted(base, items)?,

@@ -5,9 +5,11 @@ use Rattle.std.specs.Option.{option_map, option_map_or, option_and_then}
 use Rattle.std.specs.Str.{bytes_eq}
 use Rattle.serde_json.specs.Data as json
 use Rattle.serde_json.specs.Data.{Data, Items, no_items}
-use Rattle.serde_json.specs.Find.{as_number, as_u64, get}
+use Rattle.serde_json.specs.Find.{as_i64, as_number, as_u64, get}
 use Rattle.tmpl_shape.specs.Shape.{Shape, never, nothings, nulls, truths, numbers, texts, exactly, anything, list_of, record_of}
 use Rattle.tmpl_shape.specs.Shape.{either, Fields, no_field, others, field}
+use Rattle.tmpl_shape.specs.declared.constant.Constant.{Constant}
+use Rattle.tmpl_shape.specs.declared.constant.Constant.TheVariants as constant
 use Rattle.tmpl_shape.specs.computed.Meet.{or_shape}
 use Rattle.tmpl_shape.specs.computed.Shapes.{is_never}
 use Rattle.tmpl_json_schema.specs.Document.{fragment_of, has_const}
@@ -133,14 +135,18 @@ is_anything s = false
 abbrev pub or_if : Bool → Shape → Shape → Shape
 or_if c s t = if c then or_shape s t else t
 
--- the strings that constants are, and those that `const` and `enum` leave, of which not too many are followed
-abbrev pub text_with : Shape → Data → Option Shape
-text_with s (json.string t) = Some (or_shape (exactly t) s)
-text_with s d = Some s
+-- the strings, numbers and booleans that a constant is, and those that `const` and `enum` leave, of which not too many are followed
+abbrev pub leaves : Shape
+leaves = either truths (either numbers texts)
 
-abbrev pub const_texts : Data → Shape
-const_texts (json.string t) = exactly t
-const_texts d = texts
+abbrev pub const_leaves : Data → Shape
+const_leaves (json.boolean b) = exactly (constant.Bool b)
+const_leaves (json.number n) = option_map_or (λ i. exactly (constant.Number i)) (as_i64 n) numbers
+const_leaves (json.string t) = exactly (constant.Text t)
+const_leaves d = never
+
+abbrev pub leaf_with : Shape → Data → Option Shape
+leaf_with s d = Some (or_shape (const_leaves d) s)
 
 abbrev pub item_count : Items → ℕ
 item_count no_items = 0
@@ -149,20 +155,21 @@ item_count (json.item d ds) = suc (item_count ds)
 abbrev pub is_short : Items → Bool
 is_short ds = nat_le (item_count ds) 32
 
-abbrev pub enum_texts : Data → Shape
-enum_texts (json.array ds) = if is_short ds then unwrap_or (fold text_with never ds) texts else texts
-enum_texts d = texts
+abbrev pub enum_leaves : Data → Shape
+enum_leaves (json.array ds) = if is_short ds then unwrap_or (fold leaf_with never ds) leaves else leaves
+enum_leaves d = leaves
 
-abbrev pub texts_in : Data → Shape
-texts_in d = option_map_or const_texts (get (codes "const") d) (option_map_or enum_texts (get (codes "enum") d) texts)
-
-abbrev pub by_kinds : Kinds → Shape → ℕ → Shape → Fields → Shape
-by_kinds ks ts n i fs =
-    or_if ks.null nulls (or_if ks.truth truths (or_if ks.number numbers (or_if ks.text ts
-    (or_if ks.list (list_of n i) (or_if ks.map (record_of fs) never)))))
+abbrev pub leaves_in : Data → Shape
+leaves_in d = option_map_or const_leaves (get (codes "const") d) (option_map_or enum_leaves (get (codes "enum") d) leaves)
 
 abbrev pub if_kind : Bool → Shape → Shape
 if_kind c s = if c then s else never
+
+-- a constant is of these kinds
+abbrev pub has_kind : Kinds → Constant → Bool
+has_kind ks (constant.Bool b) = ks.truth
+has_kind ks (constant.Number n) = ks.number
+has_kind ks (constant.Text t) = ks.text
 
 -- of the values of these kinds
 abbrev pub keep_kinds : Kinds → Shape → Shape
@@ -172,11 +179,15 @@ keep_kinds ks nulls = if_kind ks.null nulls
 keep_kinds ks truths = if_kind ks.truth truths
 keep_kinds ks numbers = if_kind ks.number numbers
 keep_kinds ks texts = if_kind ks.text texts
-keep_kinds ks (exactly t) = if_kind ks.text (exactly t)
+keep_kinds ks (exactly c) = if_kind (has_kind ks c) (exactly c)
 keep_kinds ks (list_of n s) = if_kind ks.list (list_of n s)
 keep_kinds ks (record_of fs) = if_kind ks.map (record_of fs)
 keep_kinds ks (either s t) = or_shape (keep_kinds ks s) (keep_kinds ks t)
 keep_kinds ks s = s
+
+abbrev pub by_kinds : Kinds → Shape → ℕ → Shape → Fields → Shape
+by_kinds ks ls n i fs =
+    or_if ks.null nulls (or_shape (keep_kinds ks ls) (or_if ks.list (list_of n i) (or_if ks.map (record_of fs) never)))
 
 -- the fields that are not named
 abbrev pub rest_of : Shape → Fields

@@ -130,7 +130,7 @@ impl<'d> Document<'d> {
     }
 
     /// The place that a `$ref` points to.
-    fn referred(&self, reference: &Value) -> Result<String, Lost> {
+    fn follow(&self, reference: &Value) -> Result<String, Lost> {
         let Some(fragment) = reference.as_str().and_then(|text| text.strip_prefix('#')) else {
             return Err(Lost::Untold);
         };
@@ -149,8 +149,8 @@ impl<'d> Document<'d> {
         let fewer = levels - 1;
         let schema = self.schema_at(place)?;
         if let Some(reference) = schema.get("$ref") {
-            let referred = self.referred(reference)?;
-            return self.add_plain(fewer, referred.as_str(), plain);
+            let place = self.follow(reference)?;
+            return self.add_plain(fewer, place.as_str(), plain);
         }
         let choices = choices_in(schema);
         if choices.is_none() && (has_content(schema) || schema.get("allOf").is_none()) {

@@ -469,7 +469,7 @@ fn add_assigned<'w>(levels: usize, nodes: &'w [Node], names: &mut Vec<&'w [u8]>)
 }
 
 /// Visits a template that is passed this. Gives what it passes to others.
-fn walked<'w>(
+fn walk_tree<'w>(
     document: Document<'w>,
     doubts: &'w [Doubt],
     asked: Vec<Option<Origin>>,
@@ -519,7 +519,7 @@ fn round<'w>(document: Document<'w>, set: &'w Set, dots: &mut Vec<Source<'w>>) -
         let Some(tree) = set.get(dot.name) else {
             continue;
         };
-        let Walk { handed, .. } = walked(document, &[], Vec::new(document.alloc), dot, tree)?;
+        let Walk { handed, .. } = walk_tree(document, &[], Vec::new(document.alloc), dot, tree)?;
         for source in handed.into_iter() {
             is_more |= hand(dots, source)?;
         }
@@ -554,7 +554,7 @@ pub(crate) fn asked_of<'w>(
     }
     for dot in dots.as_slice() {
         if let Some(tree) = set.get(dot.name) {
-            let Walk { asked: more, .. } = walked(document, doubts, asked, dot, tree)?;
+            let Walk { asked: more, .. } = walk_tree(document, doubts, asked, dot, tree)?;
             asked = more;
         }
     }

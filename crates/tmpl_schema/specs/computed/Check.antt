@@ -209,12 +209,12 @@ least_by false Le n = Some (n + 1)
 least_by c f n = None
 
 -- the comparison of the second with the first that a comparison of the first with the second is
-abbrev pub mirrored : Func → Func
-mirrored Lt = Gt
-mirrored Le = Ge
-mirrored Gt = Lt
-mirrored Ge = Le
-mirrored f = f
+abbrev pub mirror : Func → Func
+mirror Lt = Gt
+mirror Le = Ge
+mirror Gt = Lt
+mirror Ge = Le
+mirror f = f
 
 -- by a comparison of the length of an operand with a number
 abbrev pub length_fact : Bool → Func → Option Operand → Option ℕ → Option Fact
@@ -247,7 +247,7 @@ first_fact None more = more
 
 -- by a comparison of two operands of which one is a length
 abbrev pub pair_fact : Bool → Func → Operand → Operand → Option Fact
-pair_fact c f o p = first_fact (length_fact c f (operand_counts o) (count_of p)) (length_fact c (mirrored f) (operand_counts p) (count_of o))
+pair_fact c f o p = first_fact (length_fact c f (operand_counts o) (count_of p)) (length_fact c (mirror f) (operand_counts p) (count_of o))
 
 -- by a comparison of a string that is written out with an operand, which is the same as that of the operand with it
 abbrev pub turned_by : Bool → Func → Operand → Operand → Option Fact
@@ -270,7 +270,7 @@ call_fact c f (operand o os) = compare_fact c f o os
 
 -- by a call to which a length is piped
 abbrev pub piped_fact : Bool → Option Operand → Option (Func × Operands) → Option Fact
-piped_fact c counted call = option_and_then (λ call. length_fact c (mirrored call.0) counted
+piped_fact c counted call = option_and_then (λ call. length_fact c (mirror call.0) counted
     (option_and_then count_of (one_of call.1))) call
 
 -- what is left of a chain of fields after this one, with which it begins

@@ -3,7 +3,7 @@ use Rattle.std.specs.Prelude.{ℕ, zero, suc, max, Bool, true, false, ◌||◌, 
 use Rattle.std.specs.Option.{option_map_or}
 use Rattle.tmpl_shape.specs.Shape.{Shape, never, nothings, nulls, truths, numbers, texts, exactly, anything, list_of, record_of}
 use Rattle.tmpl_shape.specs.Shape.{either, named, Fields, no_field, others, field}
-use Rattle.tmpl_shape.specs.computed.Shapes.{is_listed, is_never, is_required, shape_at, text_within}
+use Rattle.tmpl_shape.specs.computed.Shapes.{is_listed, is_never, is_required, shape_at, has_constant}
 
 -- alternatives, but none without a value
 abbrev pub or_shape : Shape → Shape → Shape
@@ -36,7 +36,7 @@ leaf_within nulls nulls = true
 leaf_within truths truths = true
 leaf_within numbers numbers = true
 leaf_within texts texts = true
-leaf_within (exactly s) t = text_within s t
+leaf_within (exactly c) t = has_constant t c
 leaf_within s t = false
 
 abbrev pub meet_leaf : Shape → Shape → Shape

@@ -1,17 +1,22 @@
 -- What is computed with shapes: whether one is within another, what they become where a value is not empty, and the
 -- shapes of fields and elements.
-use Rattle.std.specs.Prelude.{ℕ, zero, suc, ◌-◌, max, nat_le, nat_lt, Bool, true, false, not, ◌&&◌, ◌||◌, List, [], ◌∷◌, Option, Some, None}
-use Rattle.std.specs.Prelude.{if◌then◌else◌}
+use Rattle.std.specs.Prelude.{ℕ, zero, suc, ◌-◌, ◌==◌, max, nat_le, nat_lt, Bool, true, false, not, ◌&&◌, ◌||◌, List, [], ◌∷◌, Option, Some, None}
+use Rattle.std.specs.Prelude.{if◌then◌else◌, unwrap_or}
 use Rattle.std.specs.Option.{option_map, option_map_or, option_and_then}
 use Rattle.std.specs.Str.{bytes_eq}
-use Rattle.tmpl_grammar.specs.Tree.{Binding, declare_pair, text_constant, Operands, no_operand, operand}
+use Rattle.tmpl_grammar.specs.Tree.{Binding, declare_pair, Operand, bool_constant, number_constant, text_constant, Operands, no_operand, operand}
+use Rattle.tmpl_values.specs.Compare.{equality}
+use Rattle.tmpl_values.specs.Truth.{truth}
+use Rattle.tmpl_values.specs.Value.{Value, boolean, number, string}
+use Rattle.tmpl_shape.specs.declared.constant.Constant.{Constant}
+use Rattle.tmpl_shape.specs.declared.constant.Constant.TheVariants as constant
 use Rattle.tmpl_shape.specs.declared.field.AbsentField.{AbsentField}
 use Rattle.tmpl_shape.specs.declared.field.AbsentField.TheVariants.{Nothing, Null, Fault}
 use Rattle.tmpl_shape.specs.declared.kind.Kind.{Kind}
 use Rattle.tmpl_shape.specs.declared.kind.Kinds.{Kinds}
 use Rattle.tmpl_shape.specs.declared.kind.Kind.TheVariants.{Blank, Truth, Number, Text, Many}
 use Rattle.tmpl_shape.specs.Shape.{Shape, never, nothings, nulls, truths, numbers, texts, exactly, anything, list_of, record_of}
-use Rattle.tmpl_shape.specs.Shape.{either, named, Defs, Fields, no_field, others, field}
+use Rattle.tmpl_shape.specs.Shape.{either, named, Defs, Fields, no_field, others, field, value_of}
 
 -- the shapes of names; and before a question is given up, how many names are followed one into the other where shapes
 -- are compared, and how many steps are taken into a shape, as to an alternative or to what a name stands for
@@ -27,8 +32,8 @@ pub record Visit : Type 0 where
 
 -- ---- tests
 
--- what is shown of a value: that it is neither nothing nor null, and has at least as many items if it is a list; that it is
--- one of these constants, none of which is `nil`; or that it is none of the constants among these
+-- what is shown of a value: that it is neither nothing nor null, has at least as many items if it is a list, and is not empty
+-- where that is one or more; that it is one of these constants, none of which is `nil`; or that it is none of the constants among these
 pub data Test : Type 0 where
   has_least : ℕ → Test
   is_among : Operands → Test
@@ -43,17 +48,27 @@ abbrev pub least_of : Test → ℕ
 least_of (has_least n) = n
 least_of test = 0
 
--- a string is one of the constants
-abbrev pub is_constant : List ℕ → Operands → Bool
-is_constant t no_operand = false
-is_constant t (operand (text_constant s) os) = bytes_eq t s || is_constant t os
-is_constant t (operand o os) = is_constant t os
+-- two constants are the same value
+abbrev pub is_same : Value → Value → Bool
+is_same v w = unwrap_or (equality v w) false
 
--- that it may be this string
-abbrev pub lets_text : Test → List ℕ → Bool
-lets_text (has_least n) t = true
-lets_text (is_among os) t = is_constant t os
-lets_text (is_apart os) t = not (is_constant t os)
+-- an operand is this constant
+abbrev pub is_named : Value → Operand → Bool
+is_named v (bool_constant b) = is_same v (boolean b)
+is_named v (number_constant n) = is_same v (number n)
+is_named v (text_constant s) = is_same v (string s)
+is_named v o = false
+
+-- a value is one of the constants
+abbrev pub is_constant : Value → Operands → Bool
+is_constant v no_operand = false
+is_constant v (operand o os) = is_named v o || is_constant v os
+
+-- that it may be this constant
+abbrev pub lets_value : Test → Value → Bool
+lets_value (has_least n) v = n == 0 || truth v
+lets_value (is_among os) v = is_constant v os
+lets_value (is_apart os) v = not (is_constant v os)
 
 -- ---- fields
 
@@ -156,16 +171,23 @@ is_of_kind Blank nulls = true
 is_of_kind Truth truths = true
 is_of_kind Number numbers = true
 is_of_kind Text texts = true
-is_of_kind Text (exactly t) = true
 is_of_kind Many (list_of n s) = true
 is_of_kind Many (record_of fs) = true
 is_of_kind k s = false
 
--- this string has a shape of one kind
-abbrev pub text_within : List ℕ → Shape → Bool
-text_within s texts = true
-text_within s (exactly t) = bytes_eq s t
-text_within s t = false
+-- the values of the kind of a constant
+abbrev pub kind_shape : Constant → Shape
+kind_shape (constant.Bool b) = truths
+kind_shape (constant.Number n) = numbers
+kind_shape (constant.Text s) = texts
+
+-- a shape of one kind has this constant
+abbrev pub has_constant : Shape → Constant → Bool
+has_constant (exactly d) c = is_same (value_of c) (value_of d)
+has_constant truths (constant.Bool b) = true
+has_constant numbers (constant.Number n) = true
+has_constant texts (constant.Text s) = true
+has_constant s c = false
 
 -- each value of a shape of one kind has another of one kind
 abbrev pub plain_within : (Shape → Shape → Bool) → Shape → Shape → Bool
@@ -174,7 +196,7 @@ plain_within w nulls nulls = true
 plain_within w truths truths = true
 plain_within w numbers numbers = true
 plain_within w texts texts = true
-plain_within w (exactly s) t = text_within s t
+plain_within w (exactly c) t = has_constant t c
 plain_within w (list_of n s) (list_of m t) = nat_le m n && w s t
 plain_within w (record_of fs) (record_of gs) = fields_along w fs gs
 plain_within w s t = false
@@ -224,10 +246,10 @@ number_visit c = visit numbers numbers
 abbrev pub with_refined : List ℕ → Shape → Fields → Shape
 with_refined name t fs = if is_never t then never else record_of (with_field name t fs)
 
--- of the strings that are this one
-abbrev pub refine_text : Test → List (List ℕ) → List ℕ → Shape
-refine_text test [] t = if lets_text test t then exactly t else never
-refine_text test (name ∷ ns) t = exactly t
+-- of the values that are this constant
+abbrev pub refine_constant : Test → List (List ℕ) → Constant → Shape
+refine_constant test [] c = if lets_value test (value_of c) then exactly c else never
+refine_constant test (name ∷ ns) c = exactly c
 
 module _ (base : Base) where
   -- some alternative is such, or it has each value: by what is asked of those before the last, and of what names stand for
@@ -268,6 +290,7 @@ module _ (base : Base) where
   kind_step p k anything = true
   kind_step p k (either s t) = p s || p t
   kind_step p k (named x) = option_map_or p (base.defs x) true
+  kind_step p k (exactly c) = p (kind_shape c)
   kind_step p k s = is_of_kind k s
 
   abbrev pub may_be : ℕ → Kind → Shape → Bool
@@ -312,7 +335,7 @@ module _ (base : Base) where
   abbrev pub refine_step : Test → (List (List ℕ) → Shape → Shape) → List (List ℕ) → Shape → Shape
   refine_step test f ns nothings = if shows_there test then never else nothings
   refine_step test f ns nulls = if shows_there test then never else nulls
-  refine_step test f ns (exactly t) = refine_text test ns t
+  refine_step test f ns (exactly c) = refine_constant test ns c
   refine_step test f ns (list_of n s) = list_of (max n (least_of test)) s
   refine_step test f ns (either s t) = join (f ns s) (f ns t)
   refine_step test f ns (named x) = option_map_or (f ns) (base.defs x) (named x)
@@ -332,10 +355,14 @@ module _ (base : Base) where
 
   -- ---- fields
 
-  -- .. of which it is not followed which strings there are
+  -- the values of a kind, where each value of the shape is of it
+  abbrev pub spread : Shape → Shape → Shape → Shape
+  spread s kind t = if within s kind then kind else t
+
+  -- .. of which it is not followed which constants there are
   abbrev pub blurred : Shape → Shape
-  blurred (exactly t) = texts
-  blurred (either s t) = if within (either s t) texts then texts else either s t
+  blurred (exactly c) = kind_shape c
+  blurred (either s t) = spread (either s t) texts (spread (either s t) numbers (spread (either s t) truths (either s t)))
   blurred s = s
 
   abbrev pub of_field : AbsentField → Bool → Shape → Option Shape
@@ -399,7 +426,7 @@ module _ (base : Base) where
   abbrev pub part_step : (Shape → Option Shape) → ℕ → Option ℕ → Shape → Option Shape
   part_step f i to never = Some never
   part_step f i to texts = text_part i to
-  part_step f i to (exactly t) = text_part i to
+  part_step f i to (exactly c) = f (kind_shape c)
   part_step f i to (list_of n s) = list_part i to n s
   part_step f i to (either s t) = both (f s) (f t)
   part_step f i to (named x) = option_and_then f (base.defs x)
@@ -424,6 +451,7 @@ module _ (base : Base) where
   visit_step f c nothings = visit never never
   visit_step f c nulls = visit never never
   visit_step f c numbers = number_visit c
+  visit_step f c (exactly d) = f (kind_shape d)
   visit_step f c (list_of n s) = visit numbers s
   visit_step f c (record_of fs) = visit texts (any_field fs)
   visit_step f c (either s t) = both_visits (f s) (f t)

@@ -12,7 +12,7 @@ use Rattle.tmpl_shape.specs.Shape.{Fields, HasShape, Shape, field}
 use Rattle.tmpl_shape.specs.View.{fields_of, shape_of}
 use Rattle.tmpl_shape.proofs.ViewLemmas.{anything_seen}
 use Rattle.tmpl_json_schema.specs.Document.{EachItemOf, SomeItem, SomeMember, is_since_2019, items_in}
-use Rattle.tmpl_json_schema.specs.computed.Reading.{alternatives_in, by_kinds, is_required, keep_kinds, least_in, listed_in, required_in, rest_of, texts_in}
+use Rattle.tmpl_json_schema.specs.computed.Reading.{alternatives_in, by_kinds, is_required, keep_kinds, least_in, listed_in, required_in, rest_of, leaves_in}
 use Rattle.tmpl_json_schema.specs.computed.Fitting.{Adds, At, Conforms, Context, IsBeside, Keeps, NamesIn, WithEachOf, WithProperties, context_of}
 use Rattle.tmpl_json_schema.proofs.DocumentLemmas.{add-one, add-pattern, additional-has, chosen, content-has, fields-has, inside, items-next, keep-one, kinds-of, looked-up, put-none, put-one, read-object, referred}
 use Rattle.tmpl_json_schema.proofs.KindLemmas.{kept-has}
@@ -37,7 +37,7 @@ additional_shape-returns-in-Ok t c =
 pub content_shape-returns : goal.content_shape-returns
 content_shape-returns t c =
     let d = view c.args.schema.now in
-    let is : shape_of c.in_ok-by_kinds.field-0 ≡ by_kinds c.args.kinds (texts_in d) (least_in d) (shape_of c.in_ok-item.item) (fields_of c.in_ok-fields.fields) = search rules in
+    let is : shape_of c.in_ok-by_kinds.field-0 ≡ by_kinds c.args.kinds (leaves_in d) (least_in d) (shape_of c.in_ok-item.item) (fields_of c.in_ok-fields.fields) = search rules in
     rw is (content-has (context_of c.args.reader.now) d c.args.kinds (shape_of c.in_ok-item.item) (fields_of c.in_ok-fields.fields) c.in_ok-item.ensures c.in_ok-fields.ensures)
 
 pub fields_in-returns : goal.fields_in-returns
