@@ -1,10 +1,10 @@
 -- For the law `runs_safely`: where nodes are accepted, a run of them has no fault but those of steps and depth, and leaves the variables with the
 -- shapes that are computed.
-use Rattle.std.specs.Prelude.{◌++◌, ◌==◌, ℤ, pos, not, Contains}
+use Rattle.std.specs.Prelude.{◌++◌, ℤ, pos, not, Contains}
 use Rattle.std.specs.Ordering.{int_eq}
 use Rattle.std.proofs.Common.{inl, inr, rules, ◌≡◌, ◌-◌, ◌≤◌, ◌||◌, ℕ, zero, suc, nat_eq, Bool, true, false, List, [], ◌∷◌, Option, Some, None, Result, Ok, Err, IfSome, length, refl, sym, subst, if◌then◌else◌}
 use Rattle.std.proofs.lemmas.Bool.{false≢true}
-use Rattle.std.proofs.lemmas.Bool.Decides.{Decides-eqb, Decides-int_eq}
+use Rattle.std.proofs.lemmas.Bool.Decides.{Decides-int_eq}
 use Rattle.std.proofs.lemmas.Option.{cond_some, option_and_then_some}
 use Rattle.std.specs.Option.{option_and_then, option_map, option_map_or}
 use Rattle.tmpl_values.specs.Value.{Value, nothing, null, boolean, number, string, sequence, mapping, no_item, item, no_entry, entry}
@@ -39,16 +39,9 @@ use Rattle.tmpl_loops.proofs.CopyLemmas.{calls_copy}
 use Rattle.tmpl_schema.proofs.LoopLemmas.{found-loop}
 use Rattle.tmpl_shape.proofs.ShapeLemmas.{within-has}
 use Rattle.tmpl_schema.proofs.FieldLemmas.{Gives, Each, IsVisit, Visits, fill-has, visit-gives}
-use Rattle.tmpl_schema.proofs.VariableLemmas.{HasKnown, Fits, place, known-length, last-known, last-last, within-known, if_within-some, joined-left, both-known, bound-known}
+use Rattle.tmpl_schema.proofs.VariableLemmas.{above-zero, HasKnown, Fits, place, known-length, last-known, last-last, within-known, if_within-some, joined-left, both-known, bound-known}
 use Rattle.tmpl_schema.proofs.VariableLemmas.{pipeline-gives, pipeline-has, narrow-fits}
 use Rattle.tmpl_schema.proofs.OriginLemmas.{HasOrigin, at-root}
-
-above-zero : (n : ℕ) → not (suc n == 0) ≡ true
-above-zero n = by (suc n == 0) refl
-  where
-    by : (b : Bool) → (suc n == 0) ≡ b → not b ≡ true
-    by true e = let same : suc n ≡ 0 = (Decides-eqb (suc n) 0).0 e in cc
-    by false e = refl
 
 -- what has an element is not empty
 elements-true : (v : Value) (e : Element) (es : List Element) → elements v ≡ Some (e ∷ es) → truth v ≡ true

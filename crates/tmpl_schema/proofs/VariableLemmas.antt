@@ -2,7 +2,7 @@
 use Rattle.std.proofs.Common.{arith, ◌≡◌, ◌∙◌, ◌+◌, ◌-◌, ◌≤◌, ◌<◌, ◌&&◌, ◌||◌, pos, nat_lt, ◌==◌, ◌++◌, ◌⊎◌, inl, inr, not, option_to_list, unwrap_or, ℕ, zero, suc, Bool, true, false, List, [], ◌∷◌, Option, Some, None, Result, Ok, Err, length, drop, map, ap, refl, sym, subst, ok_or, if◌then◌else◌}
 use Rattle.std.proofs.lemmas.List.{append-nil, drop-drop, length-drop}
 use Rattle.std.proofs.lemmas.Bool.{false≢true, and_parts, eqb-true, ltb-true, ltb-false}
-use Rattle.std.proofs.lemmas.Bool.Decides.{Decides-int_eq}
+use Rattle.std.proofs.lemmas.Bool.Decides.{Decides-eqb, Decides-int_eq}
 use Rattle.std.specs.Ordering.{int_eq}
 use Rattle.std.proofs.lemmas.Option.{cond_some}
 use Rattle.std.specs.Option.{option_map, option_map_or, option_and_then}
@@ -58,10 +58,24 @@ use Rattle.tmpl_meaning.proofs.PartLemmas.{by_count, decided}
 -- ---- numbers of items
 
 -- a value has as many items, and so it is there
+or_true : (b : Bool) → (b || true) ≡ true
+or_true true = refl
+or_true false = refl
+
+pub above-zero : (n : ℕ) → not (suc n == 0) ≡ true
+above-zero n = by (suc n == 0) refl
+  where
+    by : (b : Bool) → (suc n == 0) ≡ b → not b ≡ true
+    by true e = let same : suc n ≡ 0 = (Decides-eqb (suc n) 0).0 e in cc
+    by false e = refl
+
+none-below : (n : ℕ) → suc n ≤ 0 → ⊥
+none-below n h = omega arith
+
 full-string : (s : List ℕ) (i l : ℕ) → size_of (string s) ≡ Some i → l ≤ i → lets_value (has_least l) (string s) ≡ true
 full-string s i zero e h = refl
-full-string s zero (suc l) e h = omega (arith, h)
-full-string s (suc i) (suc l) e h = rw e refl
+full-string [] i (suc l) e h = let same : 0 ≡ i = cc in absurd (none-below l (subst (λ n. suc l ≤ n) (sym same) h))
+full-string (x ∷ xs) i (suc l) e h = rw (above-zero (length xs)) (or_true (suc l == 0))
 
 sized-there : (u : Value) (i l : ℕ) → size_of u ≡ Some i → l ≤ i → Shows (has_least l) u
 sized-there nothing i l e h = cc
@@ -71,10 +85,6 @@ sized-there (number n) i l e h = cc
 sized-there (string s) i l e h = (λ x. refl, full-string s i l e h)
 sized-there (mapping es) i l e h = (λ x. refl, tt)
 sized-there (sequence vs) i l e h = let same : length (values_of_items vs) ≡ i = cc in (λ x. refl, omega arith)
-
-or_true : (b : Bool) → (b || true) ≡ true
-or_true true = refl
-or_true false = refl
 
 full-number : (i : ℕ) → truth (number (pos i)) ≡ true → 1 ≤ i
 full-number zero t = absurd (false≢true t)
