@@ -74,9 +74,12 @@ CRATE = re.compile(r"rt: (\w+)(?: proved| is kept)\b")  # a line of `rt ci` that
 SLOWEST = 5
 ROOM = 6_000_000_000  # bytes that are free when a check begins beside the proofs
 YIELDING = ("nice", "-n", "19")
-# what two runs of `rt ci` prove side by side, before one proves all: each reckons with the memory that is free when it begins. One by itself
-# reckons a check at twice what it takes, and leaves processors idle
-SIDES = ("tmpl_json_schema", "tmpl_problems tmpl_formats tmpl_schema tmpl")
+# what runs of `rt ci` prove side by side before one proves all, and then what one proves beside that: each reckons with the memory that is free
+# when it begins, and with two processors for a crate. One by itself reckons a check at twice what it takes, and gives a crate one processor
+# where others wait, so processors are idle
+SIDES = ("tmpl_json_schema", "tmpl_schema tmpl_engine", "tmpl_formats tmpl_problems")
+LAST_SIDE = "tmpl_report tmpl_c"
+LEAD = 30  # seconds after which it has begun with the first of these
 ROOM_FOR_SIDES = 20_000_000_000  # bytes; together they take up to 16
 PROCESSORS_FOR_SIDES = 4
 
@@ -184,41 +187,52 @@ def prove(progress, beside):
         if crate := see(line):
             beside.add(crate)
 
-    used = prove_sides(see)
-    passed, failed, seconds = run(PROOFS, os.environ, see_last)
+    with ThreadPoolExecutor(len(SIDES)) as pool:
+        last, used = prove_sides(pool, see)
+        passed, failed, seconds = run(PROOFS, os.environ, see_last)
+        seconds += used + (last.result() if last else 0)
     progress.crates.clear()
     if not failed:
         proved.mark(begun)
-    return passed, failed, used + seconds
+    return passed, failed, seconds
 
 
-def prove_sides(see):
-    """Has two runs of `rt ci` prove what stands below the report, where there are processors and memory for both; the seconds of processors that they
-    took. What they prove is kept for the run that proves all, which proves once more what failed. The toolchain takes no names where CI is set."""
+def prove_sides(pool, see):
+    """Has runs of `rt ci` prove side by side what the last crates stand on, and begins one beside the run that proves all; the seconds of processors that
+    the first took. What they prove is kept for the run that proves all, which proves once more what failed. Nothing of this is done where processors or
+    memory are too few, where RT_JOBS is set, and where CI is, with which the toolchain takes no names."""
     fits = harness.processes() >= PROCESSORS_FOR_SIDES and harness.free_memory() >= ROOM_FOR_SIDES
     if not fits or "RT_JOBS" in os.environ or os.environ.get("CI") == "true":
-        return 0
-    with ThreadPoolExecutor(len(SIDES)) as pool:
-        return sum(seconds for _, _, seconds in pool.map(lambda names: run(PROOFS, os.environ, see, names), SIDES))
+        return None, 0
+
+    def side(names):
+        return run(PROOFS, os.environ, see, names)[2]
+
+    used = sum(pool.map(side, SIDES))
+    last = pool.submit(side, LAST_SIDE)
+    time.sleep(LEAD)
+    return last, used
 
 
 class Lanes:
     """Runs tests side by side. What a test puts out is shown once it has ended."""
 
-    def __init__(self, names, progress, lanes, environment, words):
-        self.names, self.progress, self.environment, self.words = names, progress, environment, words
+    def __init__(self, progress, lanes, words):
+        self.progress, self.words = progress, words
+        self.processes = str(max(1, harness.processes() // (1 if lanes == 1 else 2)))
         self.pool = ThreadPoolExecutor(lanes)
         self.by_make, self.shown = threading.Lock(), threading.Lock()
         self.built, self.missing = {}, {}
 
-    def build(self, needed):
+    def build(self, needed, before=()):
         """Begins to build these programs without proofs."""
         for name in needed:
-            self.built[name] = self.pool.submit(self.build_one, name)
+            if name not in self.built:
+                self.built[name] = self.pool.submit(self.build_one, name, before)
 
-    def build_one(self, name):
+    def build_one(self, name, before):
         begun = time.time()
-        words = [sys.executable, f"{harness.TOP}/packaging/unproved.py", name]
+        words = [*before, sys.executable, f"{harness.TOP}/packaging/unproved.py", name]
         ran = subprocess.run(words, stdout=subprocess.PIPE, stderr=subprocess.STDOUT, text=True, errors="replace")
         with self.shown:
             print(f"-- built {name} without proofs in {time.time() - begun:.0f} s" if not ran.returncode else ran.stdout, flush=True)
@@ -243,9 +257,10 @@ class Lanes:
             print(f"-- {self.progress.end_test(name)}; {name} took {time.time() - begun:.0f} s on the clock", flush=True)
         return came
 
-    def run(self):
-        """What each test came to, by its name."""
-        futures = {name: self.pool.submit(self.test, name) for name in self.names}
+    def run(self, names):
+        """What each of these tests came to, by its name."""
+        self.environment = {**os.environ, "PROCESSES": self.processes}
+        futures = {name: self.pool.submit(self.test, name) for name in names}
         return {name: it.result() for name, it in futures.items()}
 
 
@@ -349,15 +364,14 @@ def main():
     lanes = 1 if len(names) == 1 else harness.processes()
     progress, begun, watch, came = Progress(names, lanes), time.time(), processors.Watch(), {}
     words, beside = dict(QUICK) if is_quick else {}, Beside("tried" in names)
+    its = Lanes(progress, lanes, words)
     if PROOFS in names:
+        its.build([it for it in programs.OF_TESTS if not programs.is_current(it)], YIELDING)
         came[PROOFS] = prove(progress, beside)
         words["tried"] = " ".join(beside.end())
-    missing = choose_programs(names, is_quick)
-    environment = {**os.environ, "PROCESSES": str(max(1, harness.processes() // (1 if lanes == 1 else 2)))}
+    its.build(choose_programs(names, is_quick))
     done = {PROOFS} if words.get("tried", "all") else {PROOFS, "tried"}
-    its = Lanes([it for it in names if it not in done], progress, lanes, environment, words)
-    its.build(missing)
-    came.update(its.run())
+    came.update(its.run([it for it in names if it not in done]))
     if PROOFS in came:
         came.update({"tried": tuple(map(sum, zip(*beside.came(), came.get("tried", (0, 0, 0)))))} if beside.is_asked else {})
         print("== processors", *watch.table(), sep="\n")
