@@ -26,9 +26,9 @@ import subprocess
 import sys
 import threading
 import time
-from concurrent.futures import ThreadPoolExecutor
+from concurrent.futures import FIRST_COMPLETED, ThreadPoolExecutor, wait
 
-from tests.gate import processors, proved, tried
+from tests.gate import edits, processors, proved, tried
 from tests.lib import harness, programs, tools
 
 PROOFS = "proofs"
@@ -74,14 +74,13 @@ CRATE = re.compile(r"rt: (\w+)(?: proved| is kept)\b")  # a line of `rt ci` that
 SLOWEST = 5
 ROOM = 6_000_000_000  # bytes that are free when a check begins beside the proofs
 YIELDING = ("nice", "-n", "19")
-# what runs of `rt ci` prove side by side before one proves all, and then what one proves beside that: each reckons with the memory that is free
-# when it begins, and with two processors for a crate. One by itself reckons a check at twice what it takes, and gives a crate one processor
-# where others wait, so processors are idle
-SIDES = ("tmpl_json_schema", "tmpl_schema tmpl_engine", "tmpl_formats tmpl_problems")
-LAST_SIDE = "tmpl_report tmpl_c"
+# what a run of `rt ci` proves beside the one that proves all, once each crate below has been proved by a run of its own: such a run has two
+# processors for its crate, and reckons with the memory that is free when it begins. One by itself reckons a check at twice what it takes, and
+# gives a crate one processor where others wait, so processors are idle
+LAST = ("tmpl_report", "tmpl_c")
+PROCESSORS_FOR_A_CRATE = 2
 LEAD = 30  # seconds after which it has begun with the first of these
-ROOM_FOR_SIDES = 20_000_000_000  # bytes; together they take up to 16
-PROCESSORS_FOR_SIDES = 4
+ROOM_FOR_CRATES = 20_000_000_000  # bytes that are free when runs for crates begin; together they take up to 12
 
 
 def command(name, more=None):
@@ -187,8 +186,16 @@ def prove(progress, beside):
         if crate := see(line):
             beside.add(crate)
 
-    with ThreadPoolExecutor(len(SIDES)) as pool:
-        last, used = prove_sides(pool, see)
+    slots = harness.processes() // PROCESSORS_FOR_A_CRATE
+    # the toolchain takes no names of crates where CI is set
+    is_apart = slots > 1 and harness.free_memory() >= ROOM_FOR_CRATES and "RT_JOBS" not in os.environ and os.environ.get("CI") != "true"
+    with ThreadPoolExecutor(slots) as pool:
+        def crates(names):
+            return pool.submit(lambda: run(PROOFS, os.environ, see, names)[2])
+
+        used = prove_below(LAST[0], slots, crates, progress.recorded["crates"]) if is_apart else 0
+        last = crates(" ".join(LAST)) if is_apart else None
+        time.sleep(LEAD if is_apart else 0)
         passed, failed, seconds = run(PROOFS, os.environ, see_last)
         seconds += used + (last.result() if last else 0)
     progress.crates.clear()
@@ -197,21 +204,25 @@ def prove(progress, beside):
     return passed, failed, seconds
 
 
-def prove_sides(pool, see):
-    """Has runs of `rt ci` prove side by side what the last crates stand on, and begins one beside the run that proves all; the seconds of processors that
-    the first took. What they prove is kept for the run that proves all, which proves once more what failed. Nothing of this is done where processors or
-    memory are too few, where RT_JOBS is set, and where CI is, with which the toolchain takes no names."""
-    fits = harness.processes() >= PROCESSORS_FOR_SIDES and harness.free_memory() >= ROOM_FOR_SIDES
-    if not fits or "RT_JOBS" in os.environ or os.environ.get("CI") == "true":
-        return None, 0
+def prove_below(crate, slots, begin, recorded):
+    """Has each crate below this one proved by a run of its own as soon as those are that it uses, first the one with the longest chain of others
+    behind it, by the recorded seconds; the seconds of processors that this took. What is proved is kept for the run that proves all, which proves
+    once more what failed."""
+    uses, crates = programs.uses(), edits.crates_below(crate)
 
-    def side(names):
-        return run(PROOFS, os.environ, see, names)[2]
+    def behind(name):
+        return recorded.get(name, 0) + max((behind(it) for it in crates if name in uses[it]), default=0)
 
-    used = sum(pool.map(side, SIDES))
-    last = pool.submit(side, LAST_SIDE)
-    time.sleep(LEAD)
-    return last, used
+    left, running, used = sorted(crates, key=behind, reverse=True), {}, 0
+    while left or running:
+        ready = [it for it in left if not any(other in left or other in running.values() for other in uses[it])]
+        for name in ready[: slots - len(running)]:
+            left.remove(name)
+            running[begin(name)] = name
+        for it in wait(running, return_when=FIRST_COMPLETED).done:
+            running.pop(it)
+            used += it.result()
+    return used
 
 
 class Lanes:
