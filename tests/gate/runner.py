@@ -78,9 +78,8 @@ YIELDING = ("nice", "-n", "19")
 # processors for its crate, and reckons with the memory that is free when it begins. One by itself reckons a check at twice what it takes, and
 # gives a crate one processor where others wait, so processors are idle
 LAST = ("tmpl_report", "tmpl_c")
-PROCESSORS_FOR_A_CRATE = 2
 LEAD = 30  # seconds after which it has begun with the first of these
-ROOM_FOR_CRATES = 20_000_000_000  # bytes that are free when runs for crates begin; together they take up to 12
+ROOM_FOR_A_CRATE = 6_000_000_000  # bytes, more than a check of a crate by two processors takes
 
 
 def command(name, more=None):
@@ -186,9 +185,10 @@ def prove(progress, beside):
         if crate := see(line):
             beside.add(crate)
 
-    slots = harness.processes() // PROCESSORS_FOR_A_CRATE
+    # one less than there are processors, since a check does some of its work by one
+    slots = max(1, min(harness.processes() - 1, harness.free_memory() // ROOM_FOR_A_CRATE))
     # the toolchain takes no names of crates where CI is set
-    is_apart = slots > 1 and harness.free_memory() >= ROOM_FOR_CRATES and "RT_JOBS" not in os.environ and os.environ.get("CI") != "true"
+    is_apart = slots > 1 and "RT_JOBS" not in os.environ and os.environ.get("CI") != "true"
     with ThreadPoolExecutor(slots) as pool:
         def crates(names):
             return pool.submit(lambda: run(PROOFS, os.environ, see, names)[2])
