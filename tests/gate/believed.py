@@ -31,7 +31,7 @@ CHECK = (
     ("tmpl_report", "src/check.rt", "pub fn check_document"),
     ("tmpl_report", "src/samples/search.rt", "pub fn failures_of"),
     ("tmpl_report", "src/findings.rt", "pub fn findings_of"),
-    ("tmpl_report", "src/findings.rt", "pub fn text"),
+    ("tmpl_problems", "src/findings.rt", "pub fn text"),
     ("tmpl_report", "src/infer.rt", "pub fn infer_from"),
 )
 # .. and the same check for C

@@ -11,7 +11,8 @@ and nowhere else.
     tests/run --self         the tests of the tests: each must fail over programs that answer wrongly
     tests/run --all --record writes what each part took to tests/gate/times.json, from which the times still to come are told
 
-The bodies of `tried` are tried while `rt ci` proves other crates, by what it leaves of the processors.
+The bodies of `tried` are tried while `rt ci` proves other crates, by what it leaves of the processors, and so are run the tests of `tmpl` once
+that is proved.
 What a test leaves out for want of a tool is named at the end; with RILPHONG_TOOLS=all in the environment a run fails where one is missing that
 Debian has (tests/lib/tools.py). Tests run side by side; those that call make run one after the other. The libraries that `rt ci` proved are marked for `rt lib`. Without RT_JOBS
 `rt ci` gives a check the processors that no other waits for, so that the longest chain of crates ends sooner; with RT_JOBS=N it has N checks of
@@ -61,24 +62,32 @@ QUICK = {
 }
 # the programs that a test runs, where these are not tmpl alone
 RUNS = {
-    **dict.fromkeys(("problems", "migration", "verdicts", "outputs", "documents", "generated", "hostile", "library"), ("tmpl", "tmpl-check")),
+    **dict.fromkeys(("problems", "migration", "verdicts", "outputs", "documents", "generated", "hostile"), ("tmpl", "tmpl-check")),
+    "library": ("tmpl", "tmpl-check", programs.LIBRARY),
     "judges": programs.ALL,
     **dict.fromkeys(("calls", "kept", "lent_memory", "memory", "prefixes", "instructions", "formats"), ("tmpl", "tmpl_probe")),
     "host": ("tmpl_host", "tmpl_probe"),
     **dict.fromkeys((PROOFS, "edits", "tried", "believed", "wording", "unused", "recipe", "highlighting"), ()),
 }
 BY_MAKE = ("library", "ports", "web")  # these call make, so they run one after the other
+# what is run beside the proofs once `tmpl` is proved: tests of no other proved program, and of what no proof leaves
+WITHIN = [
+    name for name in TESTS
+    if name not in (PROOFS, "edits", "tried", *BY_MAKE) and set(RUNS.get(name, ("tmpl",))) <= {"tmpl", *programs.OF_TESTS}
+]
 OVER_ROWS = ("rendered", "rendered-by-rattle", "problems", "verdicts")  # these take -k
 TIMES = f"{harness.TESTS}/gate/times.json"
 CRATE = re.compile(r"rt: (\w+)(?: proved| is kept)\b")  # a line of `rt ci` that says that a crate is done
 SLOWEST = 5
 ROOM = 6_000_000_000  # bytes that are free when a check begins beside the proofs
 YIELDING = ("nice", "-n", "19")
+WAITING = ("nice", "-n", "5")  # a third of the time of one that does not wait
 # what a run of `rt ci` proves beside the one that proves all, once each crate below has been proved by a run of its own: such a run has two
 # processors for its crate, and reckons with the memory that is free when it begins. One by itself reckons a check at twice what it takes, and
 # gives a crate one processor where others wait, so processors are idle
 LAST = ("tmpl_report", "tmpl_c")
 LEAD = 30  # seconds after which it has begun with the first of these
+SHORT = 0.75  # of the longest chain
 ROOM_FOR_A_CRATE = 6_000_000_000  # bytes, more than a check of a crate by two processors takes
 
 
@@ -132,43 +141,54 @@ def run(name, environment, see, more=None, before=()):
 
 
 class Beside:
-    """Tries wrong bodies of crates that are proved while `rt ci` proves others: by half of the processors, and where memory is free."""
+    """Tries wrong bodies of crates that are proved, and runs tests of the program once it is, while `rt ci` proves other crates: by half of the
+    processors, and where memory is free."""
 
-    def __init__(self, is_asked):
-        self.is_asked, self.pool, self.lock = is_asked, ThreadPoolExecutor(max(1, harness.processes() // 2)), threading.Lock()
-        self.futures, self.begun, self.has_ended = [], [], False
+    def __init__(self, names, its):
+        self.its, self.pool, self.lock = its, ThreadPoolExecutor(max(1, harness.processes() // 2)), threading.Lock()
+        self.crates, self.tests = tried.TRIED if "tried" in names else (), [it for it in names if it in WITHIN]
+        self.futures, self.begun, self.has_ended = {}, [], False
 
-    def add(self, name):
-        if self.is_asked and name in tried.TRIED:
-            self.futures.append(self.pool.submit(self.test, name))
+    def add(self, crate):
+        """Begins what can be run as soon as this crate is proved."""
+        if crate in self.crates:
+            self.futures[crate] = self.pool.submit(self.run, crate, self.try_bodies)
+        if crate == "tmpl":
+            self.futures.update({it: self.pool.submit(self.run, it, self.its.test_beside) for it in self.tests})
 
     def begin(self, name):
-        """Whether a crate is begun now."""
+        """Whether it is begun now."""
         with self.lock:
             can_begin = not self.has_ended and harness.free_memory() >= ROOM
             self.begun += [name] * can_begin
             return can_begin
 
-    def test(self, name):
-        """What came of a crate, if it was begun."""
+    def run(self, name, call):
+        """What came of it; nothing, where the proofs ended before it was begun."""
         while not self.begin(name):
             if self.has_ended:
-                return ()
+                return None
             time.sleep(1)
+        return call(name)
+
+    def try_bodies(self, crate):
         lines = []
-        came = run("tried", os.environ, lines.append, f"--proved {name}", YIELDING)
-        print(f"== tried {name}", *lines, sep="\n", flush=True)
-        return (came,)
+        came = run("tried", os.environ, lines.append, f"--proved {crate}", YIELDING)
+        print(f"== tried {crate}", *lines, sep="\n", flush=True)
+        return came
 
     def end(self):
-        """Begins no more, and gives the crates that are left."""
+        """Begins no more, and gives the crates of which wrong bodies are left."""
         with self.lock:
             self.has_ended = True
             return [it for it in tried.wanted() if it not in self.begun]
 
-    def came(self):
-        """What came of each crate that was begun."""
-        return [came for it in self.futures for came in it.result()]
+    def came(self, of_rest):
+        """What came of each test that was begun, and of the wrong bodies: of those here, and of the rest."""
+        came = {name: it.result() for name, it in self.futures.items() if name in self.begun}
+        bodies = [it for name, it in came.items() if name not in TESTS]
+        tests = {name: it for name, it in came.items() if name in TESTS}
+        return {**tests, "tried": tuple(map(sum, zip(*bodies, of_rest)))} if self.crates else tests
 
 
 def prove(progress, beside):
@@ -190,8 +210,10 @@ def prove(progress, beside):
     # the toolchain takes no names of crates where CI is set
     is_apart = slots > 1 and "RT_JOBS" not in os.environ and os.environ.get("CI") != "true"
     with ThreadPoolExecutor(slots) as pool:
-        def crates(names):
-            return pool.submit(lambda: run(PROOFS, os.environ, see, names)[2])
+        def crates(names, yields=False):
+            # two processors for a crate end it sooner, and take a quarter more of their time
+            how = {**os.environ, "RT_JOBS": "1"} if yields else os.environ
+            return pool.submit(lambda: run(PROOFS, how, see, names, WAITING if yields else ())[2])
 
         used = prove_below(LAST[0], slots, crates, progress.recorded["crates"]) if is_apart else 0
         last = crates(" ".join(LAST)) if is_apart else None
@@ -206,8 +228,8 @@ def prove(progress, beside):
 
 def prove_below(crate, slots, begin, recorded):
     """Has each crate below this one proved by a run of its own as soon as those are that it uses, first the one with the longest chain of others
-    behind it, by the recorded seconds; the seconds of processors that this took. What is proved is kept for the run that proves all, which proves
-    once more what failed."""
+    behind it, by the recorded seconds, to which those with a much shorter one yield; the seconds of processors that this took. What is proved is
+    kept for the run that proves all, which proves once more what failed."""
     uses, crates = programs.uses(), edits.crates_below(crate)
 
     def behind(name):
@@ -216,9 +238,10 @@ def prove_below(crate, slots, begin, recorded):
     left, running, used = sorted(crates, key=behind, reverse=True), {}, 0
     while left or running:
         ready = [it for it in left if not any(other in left or other in running.values() for other in uses[it])]
+        longest = max(map(behind, [*ready, *running.values()]))
         for name in ready[: slots - len(running)]:
             left.remove(name)
-            running[begin(name)] = name
+            running[begin(name, behind(name) < SHORT * longest)] = name
         for it in wait(running, return_when=FIRST_COMPLETED).done:
             running.pop(it)
             used += it.result()
@@ -234,6 +257,7 @@ class Lanes:
         self.pool = ThreadPoolExecutor(lanes)
         self.by_make, self.shown = threading.Lock(), threading.Lock()
         self.built, self.missing = {}, {}
+        self.environment = {**os.environ, "PROCESSES": self.processes}
 
     def build(self, needed, before=()):
         """Begins to build these programs without proofs."""
@@ -249,7 +273,10 @@ class Lanes:
             print(f"-- built {name} without proofs in {time.time() - begun:.0f} s" if not ran.returncode else ran.stdout, flush=True)
         return ran.returncode == 0
 
-    def test(self, name):
+    def test_beside(self, name):
+        return self.test(name, {"PROCESSES": "1"}, YIELDING)
+
+    def test(self, name, settings=(), before=()):
         begun, lines = time.time(), []
         if not all(self.built[it].result() for it in RUNS.get(name, ("tmpl",)) if it in self.built):
             came = 0, 1, 0
@@ -259,8 +286,8 @@ class Lanes:
                 came = run(name, self.environment, lines.append)
         else:
             # the longest test has all processors, so that it does not go on by itself
-            environment = {**self.environment, "PROCESSES": str(harness.processes())} if name == "tried" else self.environment
-            came = run(name, environment, lines.append, self.words.get(name))
+            settings = {"PROCESSES": str(harness.processes())} if name == "tried" else settings
+            came = run(name, {**self.environment, **dict(settings)}, lines.append, self.words.get(name), before)
         with self.shown:
             for tool in dict.fromkeys(tools.missing_in(lines)):
                 self.missing.setdefault(tool, []).append(name)
@@ -270,7 +297,7 @@ class Lanes:
 
     def run(self, names):
         """What each of these tests came to, by its name."""
-        self.environment = {**os.environ, "PROCESSES": self.processes}
+        self.environment.update({it: os.environ[it] for it in programs.VARIABLES.values() if it in os.environ})
         futures = {name: self.pool.submit(self.test, name) for name in names}
         return {name: it.result() for name, it in futures.items()}
 
@@ -374,17 +401,18 @@ def main():
     is_quick = not given.all and not given.names
     lanes = 1 if len(names) == 1 else harness.processes()
     progress, begun, watch, came = Progress(names, lanes), time.time(), processors.Watch(), {}
-    words, beside = dict(QUICK) if is_quick else {}, Beside("tried" in names)
+    words = dict(QUICK) if is_quick else {}
     its = Lanes(progress, lanes, words)
+    beside = Beside(names, its)
     if PROOFS in names:
-        its.build([it for it in programs.OF_TESTS if not programs.is_current(it)], YIELDING)
+        its.build([it for it in (*programs.OF_TESTS, programs.LIBRARY) if not programs.is_current(it)], YIELDING)
         came[PROOFS] = prove(progress, beside)
         words["tried"] = " ".join(beside.end())
     its.build(choose_programs(names, is_quick))
-    done = {PROOFS} if words.get("tried", "all") else {PROOFS, "tried"}
+    done = {PROOFS, *beside.begun} if words.get("tried", "all") else {PROOFS, "tried", *beside.begun}
     came.update(its.run([it for it in names if it not in done]))
     if PROOFS in came:
-        came.update({"tried": tuple(map(sum, zip(*beside.came(), came.get("tried", (0, 0, 0)))))} if beside.is_asked else {})
+        came.update(beside.came(came.get("tried", (0, 0, 0))))
         print("== processors", *watch.table(), sep="\n")
     print("== in all")
     told_table(came)

@@ -8,7 +8,7 @@ use Rattle.tmpl_syntax.specs.Parse.{base_name}
 use Rattle.tmpl_syntax.specs.Set.{Template}
 use Rattle.tmpl_report.specs.Safe.{AreAccepted, IsSafe, NeverFailsOver, asked_name}
 use Rattle.tmpl_report.specs.declared.source.Question as report
-use Rattle.tmpl_report.specs.declared.source.Source.{Source}
+use Rattle.tmpl_problems.specs.declared.source.Source.{Source}
 use Rattle.tmpl_report.specs.declared.source.Sources.{Sources}
 use Rattle.tmpl_json_schema.specs.Document.{document_of}
 use Rattle.tmpl_tool.specs.Source.{Bytes}

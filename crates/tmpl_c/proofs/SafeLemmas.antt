@@ -12,7 +12,7 @@ use Rattle.tmpl_json_schema.specs.Document.{IsOfSchema, document_of}
 use Rattle.serde_json.specs.Data.{Data}
 use Rattle.tmpl_report.specs.Safe as report
 use Rattle.tmpl_report.specs.Safe.{AreAccepted, NeverFailsOver}
-use Rattle.tmpl_report.specs.declared.source.Source.{Source}
+use Rattle.tmpl_problems.specs.declared.source.Source.{Source}
 use Rattle.tmpl_tool.specs.Source.{Bytes, Files}
 use Rattle.tmpl_tool.specs.Tool.{asked_name, load_each, no_read, run_answer, tool_answer}
 use Rattle.tmpl_tool.proofs.ParseLemmas.{for_each}

@@ -7,10 +7,10 @@ use Rattle.tmpl_meaning.specs.declared.missing_key.MissingKey.{MissingKey}
 use Rattle.tmpl_meaning.specs.declared.missing_key.MissingKey.TheVariants.{Default, Invalid, Zero, Error}
 use Rattle.tmpl_json_schema.specs.Document.{document_of}
 use Rattle.tmpl_report.specs.Safe.{NeverFailsOver}
-use Rattle.tmpl_report.specs.Finding.{Finding, has_error}
-use Rattle.tmpl_report.specs.Told.{told}
-use Rattle.tmpl_report.specs.declared.findings.Format.{Format}
-use Rattle.tmpl_report.specs.declared.findings.Format.TheVariants.{Text, Json, Sarif}
+use Rattle.tmpl_problems.specs.Finding.{Finding, has_error}
+use Rattle.tmpl_problems.specs.Told.{told}
+use Rattle.tmpl_problems.specs.declared.findings.Format.{Format}
+use Rattle.tmpl_problems.specs.declared.findings.Format.TheVariants.{Text, Json, Sarif}
 use Rattle.tmpl_tool.specs.Source.{Bytes}
 use Rattle.tmpl_c.specs.declared.passed.Name.{Name}
 use Rattle.tmpl_c.specs.declared.passed.Question.{Question}

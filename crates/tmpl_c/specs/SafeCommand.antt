@@ -9,7 +9,7 @@ use Rattle.tmpl_json_schema.specs.Document.{ConformsTo}
 use Rattle.tmpl_report.specs.Safe as report
 use Rattle.tmpl_report.specs.Safe.{IsSafe}
 use Rattle.tmpl_report.specs.declared.source.Question.{Question}
-use Rattle.tmpl_report.specs.declared.source.Source.{Source}
+use Rattle.tmpl_problems.specs.declared.source.Source.{Source}
 use Rattle.tmpl_report.specs.declared.source.Sources.{Sources}
 use Rattle.tmpl_tool.specs.Outcome.{Answer}
 use Rattle.tmpl_tool.specs.Source.{Bytes, Files}

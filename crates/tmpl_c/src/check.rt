@@ -12,7 +12,7 @@ use crate::text::Text;
 use std::alloc::{AllocError, Global};
 use std::str;
 use tmpl_engine::{NameHash, Set};
-use tmpl_problems::{Problems, check_file, problem_lines};
+use tmpl_problems::{Findings, Format, Problems, check_file};
 
 /// The first of these problems; all, where 0 are asked for.
 fn first_of(problems: Problems, most: usize) -> Problems {
@@ -49,7 +49,9 @@ fn add_lines(
     if problems.refused.is_empty() {
         return Ok(status);
     }
-    let said = problem_lines(alloc, file, &first_of(problems, most))?;
+    let mut findings = Findings::new(alloc);
+    findings.add_problems(file, &first_of(problems, most))?;
+    let said = findings.text(alloc, Format::Text)?;
     lines.bytes.extend_from_slice(said.as_bytes())?;
     Ok(4)
 }

@@ -1,7 +1,7 @@
 //! A check of templates over all data of a JSON Schema.
 ghost use Rattle.std.specs.Prelude.{◌≡◌, ◌⊎◌, [], IfOk, map, if◌then◌else◌};
 ghost use Rattle.tmpl_syntax.specs.Parse.{base_name};
-ghost use Rattle.tmpl_report.specs.Finding.{has_error};
+ghost use Rattle.tmpl_problems.specs.Finding.{has_error};
 ghost use Rattle.tmpl_c.specs.Passed.{pair_of, pairs_of};
 ghost use Rattle.tmpl_c.specs.Question.{Answers, Reports, first_name, format_asked, mode_asked, stops_asked};
 ghost use Rattle.tmpl_c.specs.Texts.{bytes_in};
@@ -13,7 +13,8 @@ use crate::text::Text;
 use std::alloc::{AllocError, AllocFailed, Global};
 use std::str::from_utf8;
 use tmpl_engine::{MissingKey, NameHash};
-use tmpl_report::{self as report, Findings, Format, Source, Sources, findings_of};
+use tmpl_problems::{Findings, Format, Source};
+use tmpl_report::{self as report, Sources, findings_of};
 
 /// Why there is no answer.
 enum Stop {

@@ -5,7 +5,8 @@ use crate::words::Request;
 use std::fs::File;
 use std::io::{self, ErrorKind, Read};
 use std::random::RandomSource;
-use tmpl_report::{Source, Sources};
+use tmpl_problems::Source;
+use tmpl_report::Sources;
 use tmpl_syntax::NameHash;
 
 /// The name by which standard input is read.

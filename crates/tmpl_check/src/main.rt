@@ -2,7 +2,7 @@
 #![tactic(auto)]
 
 ghost use Rattle.std.specs.Prelude.{◌≡◌, ◌==◌, ◌&&◌, ◌||◌, if◌then◌else◌, length, not};
-ghost use Rattle.tmpl_report.specs.Finding.{has_error};
+ghost use Rattle.tmpl_problems.specs.Finding.{has_error};
 
 mod build;
 mod files;
@@ -21,7 +21,8 @@ use std::env;
 use std::io::{ErrorKind as IoErrorKind, Write};
 use std::process::ExitCode;
 use tmpl_formats::Format as Written;
-use tmpl_report::{Findings, Format, Inferred, Source, Sources, findings_of, infer_from};
+use tmpl_problems::{Findings, Format, Source};
+use tmpl_report::{Inferred, Sources, findings_of, infer_from};
 
 /// Runs the command over the file system and the standard streams.
 fn main(rt: HostRuntime) -> ExitCode {

@@ -3,8 +3,8 @@
 use crate::stop::Stop;
 use std::alloc::Global;
 use std::str::from_utf8;
-use tmpl_problems::survey_file;
-use tmpl_report::{Question, Source};
+use tmpl_problems::{Source, survey_file};
+use tmpl_report::Question;
 use tmpl_syntax::NameHash;
 
 /// How the name of a template begins that is not there so that its call ends the run.

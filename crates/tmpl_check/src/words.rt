@@ -3,7 +3,8 @@
 use clap::{Arg, ArgAction, ArgMatches, Command};
 use std::alloc::{AllocError, Global};
 use tmpl_meaning::MissingKey;
-use tmpl_report::{Format, Question};
+use tmpl_problems::Format;
+use tmpl_report::Question;
 
 /// The words of `--format`.
 static FORMATS: [&str; 3] = ["text", "json", "sarif"];

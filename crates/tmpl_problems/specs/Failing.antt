@@ -1,4 +1,4 @@
--- Commands that fail at each run that gets to them, whatever the data is: our own rules. A law of `tmpl_report` ties them
+-- Commands that fail at each run that gets to them, whatever the data is: our own rules. A law of `tmpl_problems` ties them
 -- to the meaning of templates.
 use Rattle.std.specs.Prelude.{ℕ, suc, ◌+◌, Bool, true, false, not, ◌&&◌, ◌||◌, List, [], ◌∷◌, Option, Some, None, Ok, Err}
 use Rattle.std.specs.Option.{option_map_or}

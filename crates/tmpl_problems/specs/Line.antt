@@ -38,19 +38,6 @@ reason_with reason detail = if length detail == 0 then reason else reason ++ cod
 abbrev pub text_of : Problem → List ℕ
 text_of p = reason_with (words_for p.refused.kind) (string_bytes p.detail)
 
--- these problems of a file, each in its line
-abbrev pub lines_for : List ℕ → List Problem → List ℕ
-lines_for file problems =
-    flat_map (λ p. line_of file (p.refused.line, p.refused.column) (codes "error") (text_of p)) problems
-
 -- that at least this many problems of a file are not reported
 abbrev pub left_words : ℕ → List ℕ
 left_words left = codes "too many errors: at least " ++ (decimal left ++ codes " more are not reported")
-
--- a line that says so, where some are left
-abbrev pub left_line : List ℕ → ℕ → List ℕ
-left_line file left = if left == 0 then [] else line_of file (1, 1) (codes "error") (left_words left)
-
--- all that is reported: first what is refused
-abbrev pub all_lines : List ℕ → Problems → List ℕ
-all_lines file all = lines_for file all.refused.items ++ (lines_for file all.beyond.items ++ left_line file all.left)

@@ -12,8 +12,8 @@ use Rattle.tmpl_values.specs.Value as value
 use Rattle.std.specs.Borrow.{Bor}
 use Rattle.tmpl_json_schema.specs.Inferred.{Conforms}
 use Rattle.tmpl_json_schema.specs.Document.{ConformsTo, document_of, IsOfSchema}
-use Rattle.tmpl_report.specs.Finding.{Finding, has_error}
-use Rattle.tmpl_report.specs.declared.source.Source.{Source}
+use Rattle.tmpl_problems.specs.Finding.{Finding, has_error}
+use Rattle.tmpl_problems.specs.declared.source.Source.{Source}
 use Rattle.tmpl_report.specs.computed.Inferred.{IsSampleOf, HasNoValue, AddsSample, AreSamplesOf, AreRead}
 
 -- ---- one file

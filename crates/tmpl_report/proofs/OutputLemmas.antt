@@ -2,14 +2,15 @@
 use Rattle.std.proofs.Common.{◌≡◌, ◌∙◌, ◌++◌, ◌∷◌, ◌||◌, ℕ, true, false, List, [], Some, None, ap, append-nil, append_assoc, cond, refl, sym}
 use Rattle.std.specs.Borrow.{Bor}
 use Rattle.std.specs.List.{AllByRecursion}
-use Rattle.tmpl_report.specs.Errors.{IsNotOfFormat, errors_in}
-use Rattle.tmpl_report.specs.Finding.{Finding, has_error}
-use Rattle.tmpl_report.specs.Level.{is_error}
+use Rattle.tmpl_problems.specs.Errors.{errors_in}
+use Rattle.tmpl_report.specs.Errors.{IsNotOfFormat}
+use Rattle.tmpl_problems.specs.Finding.{Finding, has_error}
+use Rattle.tmpl_problems.specs.Level.{is_error}
 use Rattle.tmpl_report.specs.computed.Entries.{AddsBroken, AddsOfOutput}
-use Rattle.tmpl_report.specs.declared.entry.Level.{Level}
-use Rattle.tmpl_report.specs.declared.entry.Level.TheVariants.{Error, Warning}
+use Rattle.tmpl_problems.specs.declared.entry.Level.{Level}
+use Rattle.tmpl_problems.specs.declared.entry.Level.TheVariants.{Error, Warning}
 use Rattle.tmpl_report.specs.declared.source.Question.{Question}
-use Rattle.tmpl_report.proofs.ErrorLemmas.{all-more, errors_in-append, found-in, none-after}
+use Rattle.tmpl_problems.proofs.ErrorLemmas.{all-more, errors_in-append, found-in, none-after}
 
 pub nothing-broken : (old : List Finding) → AddsBroken old old
 nothing-broken old = ([], tt, sym (append-nil old))

@@ -10,7 +10,7 @@ use Rattle.tmpl_schema.specs.Safe.{NeverFails}
 use Rattle.tmpl_json_schema.specs.Document.{IsOfSchema, document_of, draft_of}
 use Rattle.tmpl_report.specs.Safe.{IsSafeOver, NeverFailsOver, asked_name}
 use Rattle.tmpl_report.specs.declared.source.Question.{Question}
-use Rattle.tmpl_report.specs.declared.source.Source.{Source}
+use Rattle.tmpl_problems.specs.declared.source.Source.{Source}
 use Rattle.tmpl_report.specs.declared.source.Sources.{Sources}
 
 -- what conforms to a document fits the schema that is read of it

@@ -6,10 +6,10 @@ use Rattle.tmpl_values.specs.Value.{Value}
 use Rattle.serde_json.specs.Data.{Data}
 use Rattle.tmpl_json_schema.specs.Document.{ConformsTo, document_of}
 use Rattle.tmpl_json_schema.specs.Inferred as schema
-use Rattle.tmpl_report.specs.Finding.{has_error}
+use Rattle.tmpl_problems.specs.Finding.{has_error}
 use Rattle.tmpl_report.specs.declared.infer.Inferred.{Inferred}
 use Rattle.tmpl_report.specs.declared.infer.Inferred.TheVariants.{Schema, Refused}
-use Rattle.tmpl_report.specs.declared.source.Source.{Source}
+use Rattle.tmpl_problems.specs.declared.source.Source.{Source}
 
 -- the bytes are a schema that has no keywords but those that are inferred
 abbrev pub IsSchemaInferred : List ℕ → Type 0

@@ -1,16 +1,9 @@
 pub mod computed
 pub mod Errors
 pub mod Failing
-pub mod Finding
 pub mod Inferred
-pub mod Json
 pub mod Laws
-pub mod Level
-pub mod Position
 pub mod Reason
 pub mod Refutes
 pub mod Rendered
-pub mod Rules
 pub mod Safe
-pub mod Sarif
-pub mod Told

@@ -6,7 +6,7 @@ use Rattle.tmpl_schema.specs.declared.failure.Doubt.{Doubt}
 use Rattle.tmpl_report.specs.declared.reasons.reason.Why.{Why}
 use Rattle.tmpl_report.specs.declared.reasons.reason.Why.TheVariants as why
 use Rattle.tmpl_report.specs.declared.reasons.reason.Reason.{Reason}
-use Rattle.tmpl_report.specs.Position.{IsLine}
+use Rattle.tmpl_problems.specs.Position.{IsLine}
 
 -- what a document lets through: that a field is absent, a value of some kind, a list of few items
 pub data Gap : Type 0 where

@@ -15,11 +15,11 @@ use Rattle.tmpl_engine.specs.Reason.{cause_text}
 use Rattle.tmpl_problems.specs.Line.{reason_with}
 use Rattle.tmpl_json_schema.specs.Document.{IsOfSchema, document_of}
 use Rattle.tmpl_report.specs.Failing.{fault_over}
-use Rattle.tmpl_report.specs.Finding.{Finding}
+use Rattle.tmpl_problems.specs.Finding.{Finding}
 use Rattle.tmpl_report.specs.Safe.{AreAccepted, asked_name}
-use Rattle.tmpl_report.specs.declared.entry.Level.TheVariants.{Error}
+use Rattle.tmpl_problems.specs.declared.entry.Level.TheVariants.{Error}
 use Rattle.tmpl_report.specs.declared.source.Question.{Question}
-use Rattle.tmpl_report.specs.declared.source.Source.{Source}
+use Rattle.tmpl_problems.specs.declared.source.Source.{Source}
 use Rattle.tmpl_report.specs.declared.source.Sources.{Sources}
 
 -- the rules of the run: by this mode, 1,000,000 steps, and 500 templates inside one another

@@ -12,7 +12,7 @@ use Rattle.tmpl_schema.specs.Safe.{Covers, MayEnd}
 use Rattle.serde_json.specs.Data.{Data}
 use Rattle.tmpl_json_schema.specs.Document.{IsOfSchema, document_of, draft_of}
 use Rattle.tmpl_report.specs.declared.source.Question.{Question}
-use Rattle.tmpl_report.specs.declared.source.Source.{Source}
+use Rattle.tmpl_problems.specs.declared.source.Source.{Source}
 use Rattle.tmpl_report.specs.declared.source.Sources.{Sources}
 
 -- the template of this name is there, the document is of a draft that is known, and whatever the limits, the template's run

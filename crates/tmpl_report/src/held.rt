@@ -1,21 +1,18 @@
 //! Whether the data conforms to the schema, and where it does not.
 ghost use Rattle.std.specs.Prelude.{◌≡◌, OnOk, false, true};
-ghost use Rattle.tmpl_report.specs.Finding.{has_error};
+ghost use Rattle.tmpl_problems.specs.Finding.{has_error};
 ghost use Rattle.tmpl_report.specs.Rendered.{IsHeldTo, IsInside, Mentions};
 ghost use Rattle.tmpl_report.specs.computed.Entries.{AddsUnfit};
 
 use crate::Result;
-use crate::entry::Entry;
-use crate::findings::Findings;
-use crate::reasons::{line_of, position_of};
-use crate::rule::DOES_NOT_CONFORM;
-use crate::source::Source;
 use serde_json::Value;
 use std::alloc::{AllocError, Global};
 use tmpl_hints::Sentence;
 use tmpl_json_schema::{
     SchemaFault, Violation, conforms_to, read_document, read_schema, violations_of,
 };
+use tmpl_problems::rule::DOES_NOT_CONFORM;
+use tmpl_problems::{Entry, Findings, Source, line_of, position_of};
 
 /// The most places that are reported.
 const MOST: usize = 100;

@@ -8,11 +8,10 @@ ghost use Rattle.tmpl_report.specs.Inferred.{IsInferred, IsSchemaInferred};
 ghost use Rattle.tmpl_report.specs.computed.Inferred.{AddsSample};
 
 use crate::Result;
-use crate::findings::Findings;
-use crate::source::Source;
 use serde_json::Value;
 use std::alloc::{AllocError, Global};
 use tmpl_json_schema::{infer_schema, read_document};
+use tmpl_problems::{Findings, Source};
 
 /// What comes of files of data.
 #[derive(Drop)]

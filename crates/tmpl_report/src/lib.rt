@@ -1,34 +1,28 @@
-//! The findings in template files, data and a schema: with counterexamples and reasons, and how they are printed.
+//! The findings in template files, data, a schema and an output: with counterexamples and reasons.
 #![tactic(auto)]
 
 mod check;
 mod commands;
 mod detail;
-mod entry;
 mod findings;
 mod held;
 mod infer;
-mod json;
 mod laws;
 mod output;
 mod reasons;
 mod rendered;
-mod rule;
 mod samples;
-mod sarif;
 mod schema;
 mod source;
-mod text;
 mod values;
 
 pub use check::{CheckFault, check_document};
-pub use entry::Level;
-pub use findings::{Findings, Format, findings_of};
+pub use findings::findings_of;
 pub use infer::{Inferred, infer_from};
 pub use laws::always_fails;
-pub use reasons::{Reason, Why, position_of, reasons_of};
+pub use reasons::{Reason, Why, reasons_of};
 pub use samples::{Failure, failure_refutes, failures_of};
-pub use source::{Question, Source, Sources};
+pub use source::{Question, Sources};
 
 /// What a function gives whose only error is that memory ran out, unless it names another.
 type Result<T, E = std::alloc::AllocError> = std::result::Result<T, E>;

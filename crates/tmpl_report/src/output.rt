@@ -9,16 +9,16 @@ mod spread;
 mod strings;
 
 use crate::Result;
-use crate::findings::Findings;
 use crate::output::message::broken_entry;
 use crate::output::render::Writer;
 use crate::output::schema::add_over_schema;
 use crate::output::spread::add_file;
-use crate::source::{Question, Source, Sources, Task};
+use crate::source::{Question, Sources, Task};
 use std::alloc::{AllocError, Global};
 use tmpl_engine::{Data, DataFault, Renderer};
 use tmpl_formats::Format;
 use tmpl_json_schema::read_document;
+use tmpl_problems::{Findings, Source};
 use tmpl_syntax::{NameHash, Set};
 
 /// Adds where the output ceases to be of the format that is asked for, if one is and nothing else is wrong: over the data

@@ -1,25 +1,24 @@
 //! Whether a template never fails over the data of a schema, and where it may.
-ghost use Rattle.std.specs.Prelude.{◌≡◌, ◌++◌, List, false, IfOk, OnOk, map};
+ghost use Rattle.std.specs.Prelude.{◌≡◌, ◌++◌, List, false, true, IfOk, OnOk, map};
 ghost use Rattle.tmpl_syntax.specs.View.{set_view};
-ghost use Rattle.tmpl_report.specs.Errors.{MayBeOfSchema, errors_in};
-ghost use Rattle.tmpl_report.specs.Finding.{Finding, has_error};
+ghost use Rattle.tmpl_problems.specs.Errors.{errors_in};
+ghost use Rattle.tmpl_problems.specs.Finding.{Finding, has_error};
+ghost use Rattle.tmpl_report.specs.Errors.{MayBeOfSchema};
 ghost use Rattle.tmpl_report.specs.Safe.{IsSafeOver};
-ghost use Rattle.tmpl_report.specs.computed.Entries.{HasMore};
+ghost use Rattle.tmpl_problems.specs.computed.Entries.{HasMore};
 
 use crate::Result;
 use crate::check::{CheckFault, check_document};
-use crate::entry::Entry;
-use crate::findings::Findings;
-use crate::reasons::{Reason, Why, below, position_of, reasons_of};
-use crate::rule::{MAY_FAIL, SCHEMA_NOT_UNDERSTOOD, SCHEMA_WITHOUT_VALUES};
+use crate::reasons::{Reason, Why, below, reasons_of};
 use crate::samples::{Failure, failures_of};
-use crate::source::{Question, Source, Sources, Task};
+use crate::source::{Question, Sources, Task};
 use serde_json::Value;
 use std::alloc::{AllocError, Global};
-use std::str::from_utf8;
 use tmpl_funcs::Func;
 use tmpl_hints::Sentence;
 use tmpl_json_schema::{Refused, SchemaFault, part_without_values, read_document, warnings_of};
+use tmpl_problems::rule::{MAY_FAIL, Rule, SCHEMA_NOT_UNDERSTOOD, SCHEMA_WITHOUT_VALUES};
+use tmpl_problems::{Entry, Findings, Source, position_of};
 use tmpl_schema::{Cause, Doubt, Refusal};
 use tmpl_syntax::{Place, Set};
 use tmpl_values::Bytes;
@@ -47,7 +46,7 @@ pub(crate) fn add_schema<'a>(
 }
 
 /// The same, whether or not a file has an error.
-#[tactic(auto, using(crate::proofs::ErrorLemmas::more))]
+#[tactic(auto, using(tmpl_problems::proofs::ErrorLemmas::more))]
 fn add_judged<'a>(
     findings: &mut Findings<'a>,
     set: &Set,
@@ -78,17 +77,61 @@ fn add_judged<'a>(
     let stops = names_of(alloc, question.stops.as_slice())?;
     let stops = stops.as_slice();
     let Some(document) = read_document(alloc, schema.bytes.as_slice())? else {
-        findings.add_unread(question, schema)?;
+        add_unread(findings, question, schema)?;
         return Ok(());
     };
     match check_document(alloc, set, task.name(), &document, question.mode, stops) {
         Ok(()) => warn_of_schema(findings, schema, &document),
         Err(fault) => {
             add_fault(&task, &mut *findings, schema, &document, stops, fault)?;
-            findings.add_unseen(question)?;
+            add_unseen(findings, question)?;
             Ok(())
         }
     }
+}
+
+/// Adds an error where none tells what is wrong. Each check tells one, but no clause of theirs says so.
+fn add_unseen<'a>(findings: &mut Findings<'a>, question: &Question<'a>) -> Result<()>
+    ensures found { OnOk result (has_error findings.new ≡ true) }
+    ensures kept { OnOk result (has_error findings.old ≡ true → findings.new ≡ findings.old) }
+    ensures more { OnOk result (HasMore findings.old findings.new) }
+{
+    let is_told = findings.has_errors();
+    if is_told {
+        return Ok(());
+    }
+    let text = String::from_str(findings.alloc, "may fail: it is not seen why")?;
+    let file = question.first.unwrap_or("");
+    findings.add(Entry::error(file, (1, 1), MAY_FAIL, text))?;
+    Ok(())
+}
+
+/// Adds what is wrong in a schema that is not read, and that it is, if nothing else tells it.
+fn add_unread<'a>(
+    findings: &mut Findings<'a>,
+    question: &Question<'a>,
+    schema: &Source<'a>,
+) -> Result<()>
+    ensures found { OnOk result (has_error findings.new ≡ true) }
+    ensures more { OnOk result (HasMore findings.old findings.new) }
+{
+    findings.add_data(schema)?;
+    add_unseen(findings, question)?;
+    Ok(())
+}
+
+/// Adds a warning of a part of a schema, by a rule.
+fn warn_of_part<'a>(
+    findings: &mut Findings<'a>,
+    schema: &Source<'a>,
+    rule: Rule,
+    part: &Refused,
+) -> Result<()>
+    ensures { OnOk result (errors_in findings.new ≡ errors_in findings.old) }
+{
+    let place = position_of(schema.bytes.as_slice(), part.path.as_slice());
+    let text = refused_text(findings.alloc, "", part)?;
+    findings.warn(schema.name, place, rule, text)
 }
 
 /// Warns of what is suspicious in a schema: a part to which no value conforms, if one is found, and what is not used.
@@ -100,10 +143,10 @@ fn warn_of_schema<'a>(
     ensures { OnOk result (errors_in findings.new ≡ errors_in findings.old) }
 {
     if let Some(part) = part_without_values(findings.alloc, document)? {
-        findings.warn_of_part(schema, SCHEMA_WITHOUT_VALUES, &part)?;
+        warn_of_part(findings, schema, SCHEMA_WITHOUT_VALUES, &part)?;
     }
     for warning in warnings_of(findings.alloc, document)?.as_slice() {
-        findings.warn_of_part(schema, SCHEMA_NOT_UNDERSTOOD, warning)?;
+        warn_of_part(findings, schema, SCHEMA_NOT_UNDERSTOOD, warning)?;
     }
     Ok(())
 }
@@ -156,14 +199,30 @@ fn add_doubts<'a>(
     };
     for (index, doubt) in doubts.iter().enumerate() {
         let reason = reasons.get(index).and_then(Option::as_ref);
-        let text = text_of(alloc, &doubt.cause, schema.name, reason)?;
-        let mut entry = doubt_entry(task, doubt, text);
-        if let Some(Some(failure)) = failures.get(index) {
-            entry.note = Some(failure_text(alloc, failure, mode.is_some())?);
-        }
+        let failure = failures.get(index).and_then(Option::as_ref);
+        let entry = doubt_entry(task, doubt, schema.name, reason, failure)?;
         findings.add_once(entry)?;
     }
     Ok(())
+}
+
+/// What is found of an alarm, with its reason in the schema of this name and a value for which the template fails.
+fn doubt_entry<'a>(
+    task: &Task<'_, 'a>,
+    doubt: &Doubt,
+    schema: &str,
+    reason: Option<&Reason>,
+    failure: Option<&Failure>,
+) -> Result<Entry<'a>> {
+    let tree = task.set.get(doubt.template.as_slice());
+    let found = tree.and_then(|tree| task.sources.place(tree.file.as_slice(), doubt.start));
+    let (file, place) = found.unwrap_or((task.first, Place::first()));
+    let text = text_of(task.alloc, &doubt.cause, schema, reason)?;
+    let mut entry = Entry::error(file, (doubt.line.max(1), place.column), MAY_FAIL, text);
+    if let Some(failure) = failure {
+        entry.note = Some(failure_text(task.alloc, failure, task.question.mode.is_some())?);
+    }
+    Ok(entry)
 }
 
 /// The message about a value for which a template fails, by the mode that was asked for or by each.
@@ -195,7 +254,7 @@ fn names_of(alloc: Global, given: &[&str]) -> Result<Vec<Bytes>>
 }
 
 /// The message about a part of a schema: after these words the way to it, and what is wrong there.
-pub(crate) fn refused_text(alloc: Global, words: &str, refused: &Refused) -> Result<String> {
+fn refused_text(alloc: Global, words: &str, refused: &Refused) -> Result<String> {
     let mut pointer = String::new(alloc);
     for part in refused.path.as_slice().iter().rev() {
         pointer = below(alloc, pointer.as_str(), part.as_str())?;
@@ -208,24 +267,16 @@ pub(crate) fn refused_text(alloc: Global, words: &str, refused: &Refused) -> Res
         .finish()
 }
 
-/// Where a template may fail.
-fn doubt_entry<'a>(task: &Task<'_, 'a>, doubt: &Doubt, text: String) -> Entry<'a> {
-    let tree = task.set.get(doubt.template.as_slice());
-    let found = tree.and_then(|tree| task.sources.place(tree.file.as_slice(), doubt.start));
-    let (file, place) = found.unwrap_or((task.first, Place::first()));
-    Entry::error(file, (doubt.line.max(1), place.column), MAY_FAIL, text)
-}
-
 /// The message about a cause, for which there may be a reason in the schema of this name.
 fn text_of(alloc: Global, cause: &Cause, schema: &str, reason: Option<&Reason>) -> Result<String> {
     let said = Sentence::new(alloc).say("may fail: ");
     let said = match cause {
         Cause::Absent(name) => {
-            let said = say_name(said.say("."), name.as_slice()).say(" may be absent: ");
+            let said = said.say(".").show(name.as_slice()).say(" may be absent: ");
             say_absence(said, schema, reason)
         }
         Cause::NoFields(name, kind) => {
-            let said = say_name(said.say("."), name.as_slice()).say(" of ");
+            let said = said.say(".").show(name.as_slice()).say(" of ");
             say_kind(said, kind, schema, reason).say(" and has no fields")
         }
         Cause::Arguments(func) => say_func(said, *func).say(" may get what it refuses"),
@@ -235,9 +286,7 @@ fn text_of(alloc: Global, cause: &Cause, schema: &str, reason: Option<&Reason>) 
         }
         Cause::NotFollowed(func) => say_func(said, *func).say(" is not followed by this check"),
         Cause::Range(kind) => say_kind(said.say("a range over "), kind, schema, reason),
-        Cause::NoTemplate(name) => {
-            say_name(said.say("there is no template \""), name.as_slice()).say("\"")
-        }
+        Cause::NoTemplate(name) => { said.say("there is no template ").quote(name.as_slice()) }
         Cause::Variables => said.say("what the variables hold after it is not followed"),
         Cause::Command => said.say("what it gives is not followed by this check"),
         Cause::TooComplex => said.say("it is too complex for this check"),
@@ -304,9 +353,4 @@ fn say_kind(said: Sentence, kind: &str, schema: &str, reason: Option<&Reason>) -
 /// Says the name of a function.
 fn say_func(said: Sentence, func: Func) -> Sentence {
     said.say("\"").say(func.name()).say("\"")
-}
-
-/// Says a name, or a question mark where it is no text.
-pub(crate) fn say_name(said: Sentence, name: &[u8]) -> Sentence {
-    said.say(from_utf8(name).unwrap_or("?"))
 }

@@ -4,17 +4,8 @@ ghost use Rattle.tmpl_report.specs.Safe.{asked_name};
 
 use std::alloc::Global;
 use tmpl_meaning::MissingKey;
+use tmpl_problems::Source;
 use tmpl_syntax::{Place, Set, base_name};
-
-/// A file that was read.
-#[derive(Drop)]
-pub struct Source<'a> {
-    /// Its path as it was given.
-    pub name: &'a str,
-    pub bytes: Vec<u8>,
-    /// Whether it is a template file of others, in which nothing is warned of.
-    pub is_library: bool,
-}
 
 /// The files that were read.
 #[derive(Drop)]

@@ -6,8 +6,8 @@ ghost use Rattle.tmpl_values.specs.View.{value_of};
 ghost use Rattle.tmpl_syntax.specs.View.{set_view};
 ghost use Rattle.tmpl_meaning.specs.View.{fault_seen};
 ghost use Rattle.tmpl_meaning.specs.declared.missing_key.MissingKey.TheVariants.{Default};
-ghost use Rattle.tmpl_report.specs.Errors.{errors_in};
-ghost use Rattle.tmpl_report.specs.Finding.{Finding, has_error};
+ghost use Rattle.tmpl_problems.specs.Errors.{errors_in};
+ghost use Rattle.tmpl_problems.specs.Finding.{Finding, has_error};
 ghost use Rattle.tmpl_report.specs.Rendered.{AreOfValues, IsHeld, IsOfFault, IsRendered, IsRenderedOver, is_cut, run_rules};
 ghost use Rattle.tmpl_report.specs.Safe.{asked_name};
 ghost use Rattle.tmpl_report.specs.computed.Ended.{IsEnd};
@@ -15,17 +15,15 @@ ghost use Rattle.tmpl_report.specs.computed.Entries.{AddsFault, AddsFaults};
 
 use crate::Result;
 use crate::detail::{Detail, detail_of};
-use crate::entry::Entry;
-use crate::findings::Findings;
 use crate::held::add_held;
 use crate::rendered::{End, MOST_RENDERED, Render};
-use crate::rule::{FAILS_OVER_DATA, NOT_RENDERED_WHOLE};
 use crate::samples::{Nowhere, said_of};
-use crate::source::{Question, Source, Sources, Task};
+use crate::source::{Question, Sources, Task};
 use serde_json::Value;
 use std::alloc::{AllocError, Global};
 use tmpl_engine::{Data, DataFault, MissingKey, Renderer, RunFault};
-use tmpl_problems::reason_text;
+use tmpl_problems::rule::{FAILS_OVER_DATA, NOT_RENDERED_WHOLE};
+use tmpl_problems::{Entry, Findings, Source, reason_text};
 use tmpl_syntax::{Place, Set};
 
 /// The warning where a run meets a limit.

@@ -4,8 +4,8 @@ use Rattle.serde_json.specs.View.{view}
 use Rattle.serde_json.specs.declared.value.Value.{Value}
 use Rattle.tmpl_values.specs.Json.{tree_value, data_of, Flaw}
 use Rattle.tmpl_values.specs.Value as value
-use Rattle.tmpl_report.specs.Finding.{Finding, has_error}
-use Rattle.tmpl_report.specs.declared.source.Source.{Source}
+use Rattle.tmpl_problems.specs.Finding.{Finding, has_error}
+use Rattle.tmpl_problems.specs.declared.source.Source.{Source}
 
 -- the sample has the value of the file
 abbrev pub IsSampleOf : Source → Value → Type 0

@@ -2,14 +2,14 @@
 ghost use Rattle.tmpl_report.specs.Errors.{IsNotOfFormat};
 
 use crate::Result;
-use crate::entry::Entry;
 use crate::output::render::{Broken, Writer};
 use crate::output::spread::Origin;
-use crate::rule::NOT_OF_FORMAT;
 use crate::source::Task;
 use std::alloc::Global;
 use tmpl_engine::Data;
 use tmpl_hints::Sentence;
+use tmpl_problems::Entry;
+use tmpl_problems::rule::NOT_OF_FORMAT;
 use tmpl_syntax::Place;
 
 /// How many bytes of the output are shown before a mistake, and after it.

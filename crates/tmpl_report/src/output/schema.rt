@@ -4,7 +4,6 @@ ghost use Rattle.std.specs.Prelude.{OnOk};
 ghost use Rattle.tmpl_report.specs.computed.Entries.{AddsBroken};
 
 use crate::Result;
-use crate::findings::Findings;
 use crate::output::message::{Found, broken_entry};
 use crate::output::render::Writer;
 use crate::output::strings::{HOSTILE, count_strings, with_string};
@@ -14,6 +13,7 @@ use std::alloc::AllocError;
 use tmpl_engine::{Data, DataFault, Renderer};
 use tmpl_formats::Format;
 use tmpl_json_schema::{Draw, Flip, LEVELS, conforms};
+use tmpl_problems::Findings;
 
 /// The most renders, and the most bytes of data and output of all of them.
 const MOST_RENDERS: usize = 2_000;

@@ -2,8 +2,8 @@
 //! node stands a comment with a newline in it, which writes nothing and trims what the node's own marker trims.
 
 use crate::Result;
-use crate::source::Source;
 use std::alloc::{AllocError, Global};
+use tmpl_problems::Source;
 use tmpl_syntax::{Node, NodeKind, ParseKind, Set, parse_file};
 
 /// The comment before a node, and before one that trims the text before it.

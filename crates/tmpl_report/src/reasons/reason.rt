@@ -5,11 +5,11 @@ ghost use Rattle.tmpl_report.specs.Reason.{IsReason, IsTold, absence, few, gap_b
 
 use crate::Result;
 use crate::reasons::origin::{Document, Lost, Origin, below};
-use crate::reasons::position::line_of;
 use crate::reasons::walk::asked_of;
 use serde_json::Value;
 use std::alloc::{AllocError, Global};
 use tmpl_json_schema::{Kinds, has_content, is_every_kind, least_items, requires_key};
+use tmpl_problems::line_of;
 use tmpl_schema::{Cause, Doubt};
 use tmpl_syntax::Set;
 

@@ -1,5 +1,5 @@
 use Rattle.std.proofs.Common.{◌∙◌, ◌++◌, ap}
-use Rattle.tmpl_report.specs.Told.{told}
+use Rattle.tmpl_problems.specs.Told.{told}
 use Rattle.tmpl_c.proofs.QuestionLemmas.{never-fails}
 use Rattle.tmpl_c.proofs.question.report_into.Goals as goal
 

@@ -1,7 +1,7 @@
 use Rattle.std.proofs.Common.{sym, subst}
-use Rattle.tmpl_report.specs.Errors.{errors_in}
+use Rattle.tmpl_problems.specs.Errors.{errors_in}
 use Rattle.tmpl_report.specs.Rendered.{IsValued}
-use Rattle.tmpl_report.proofs.ErrorLemmas.{none-before}
+use Rattle.tmpl_problems.proofs.ErrorLemmas.{none-before}
 use Rattle.tmpl_report.proofs.OutputLemmas.{as-before, output-told}
 use Rattle.tmpl_report.proofs.findings.findings_of.Goals as goal
 

@@ -1,4 +1,4 @@
-use Rattle.tmpl_report.proofs.ErrorLemmas.{more-none, more-then}
+use Rattle.tmpl_problems.proofs.ErrorLemmas.{more-none, more-then}
 use Rattle.tmpl_report.proofs.schema.add_doubts.Goals as goal
 
 pub loop-index-init : goal.loop-index-init

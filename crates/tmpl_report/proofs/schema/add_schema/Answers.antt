@@ -1,6 +1,7 @@
 use Rattle.std.proofs.Common.{◌∙◌, [], append-nil, sym}
-use Rattle.tmpl_report.specs.Errors.{errors_in}
-use Rattle.tmpl_report.proofs.ErrorLemmas.{none-given, none-of-schema, some-of-schema, turned}
+use Rattle.tmpl_problems.specs.Errors.{errors_in}
+use Rattle.tmpl_problems.proofs.ErrorLemmas.{turned}
+use Rattle.tmpl_report.proofs.ErrorLemmas.{none-given, none-of-schema, some-of-schema}
 use Rattle.tmpl_report.proofs.schema.add_schema.Goals as goal
 
 pub returns-then-is_none-clause-safe : goal.returns-then-is_none-clause-safe

@@ -1,0 +1,7 @@
+use Rattle.serde_json.proofs.OnLiterals.{serde_json_on_literals}
+use Rattle.tmpl_hints.proofs.SentenceLemmas.{adds_then}
+use Rattle.tmpl_problems.proofs.sarif.say_message.Goals as goal
+
+pub returns : goal.returns
+unfolding serde_json_on_literals
+returns c = adds_then _ _ _ _ _ c.say.ensures (adds_then _ _ _ _ _ c.in_ok-say_quoted.ensures c.say-2.ensures)

@@ -1,0 +1,9 @@
+use Rattle.std.proofs.Common.{map, take}
+use Rattle.serde_json.specs.Written.{compact_text}
+use Rattle.tmpl_hints.specs.Sentence.{Adds}
+use Rattle.tmpl_problems.specs.Json.{lines_between}
+use Rattle.tmpl_problems.specs.Sarif.{result_of}
+use Rattle.tmpl_problems.proofs.sarif.say_results.Given as goal
+
+abbrev pub invariant-loop-index : goal.invariant-loop-index
+invariant-loop-index l = Adds l.initial.said l.said (lines_between (map (λ f. compact_text (result_of f)) (take l.index l.entries)))

@@ -1,0 +1,10 @@
+use Rattle.std.proofs.Common.{map, take}
+use Rattle.serde_json.specs.Written.{compact_text}
+use Rattle.tmpl_hints.specs.Sentence.{Adds}
+use Rattle.tmpl_problems.specs.Json.{lines_between}
+use Rattle.tmpl_problems.specs.Sarif.{descriptor_of}
+use Rattle.tmpl_problems.proofs.sarif.say_rules.Given as goal
+
+abbrev pub invariant-loop-index : goal.invariant-loop-index
+invariant-loop-index l =
+    Adds l.initial.said l.said (lines_between (map (λ rule. compact_text (descriptor_of (rule.id.now, rule.text.now))) (take l.index l.rules)))

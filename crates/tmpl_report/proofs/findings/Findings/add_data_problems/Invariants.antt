@@ -1,5 +1,0 @@
-use Rattle.tmpl_report.specs.computed.Entries.{AddsOfReason}
-use Rattle.tmpl_report.proofs.findings.Findings.add_data_problems.Given as goal
-
-abbrev pub invariant-loop-problem : goal.invariant-loop-problem
-invariant-loop-problem l = AddsOfReason l.file l.reason l.fn.self l.self

@@ -1,6 +1,0 @@
-use Rattle.std.proofs.Common.{◌≡◌}
-use Rattle.tmpl_report.specs.Errors.{errors_in}
-use Rattle.tmpl_report.proofs.findings.Findings.add_uncalled.Given as goal
-
-abbrev pub invariant-loop-definition : goal.invariant-loop-definition
-invariant-loop-definition l = errors_in l.self ≡ errors_in l.initial.self

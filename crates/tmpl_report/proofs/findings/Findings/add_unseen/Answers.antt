@@ -1,8 +1,0 @@
-use Rattle.tmpl_report.proofs.ErrorLemmas.{more-added, more-none}
-use Rattle.tmpl_report.proofs.findings.Findings.add_unseen.Goals as goal
-
-pub returns-then-has_errors-clause-more : goal.returns-then-has_errors-clause-more
-returns-then-has_errors-clause-more c = more-none c.args.self.now
-
-pub returns-clause-more : goal.returns-clause-more
-returns-clause-more c = more-added c.args.self.now c.add.new.self _ c.in_ok-add.ensures

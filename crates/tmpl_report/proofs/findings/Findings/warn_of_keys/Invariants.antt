@@ -1,6 +1,0 @@
-use Rattle.std.proofs.Common.{◌≡◌}
-use Rattle.tmpl_report.specs.Errors.{errors_in}
-use Rattle.tmpl_report.proofs.findings.Findings.warn_of_keys.Given as goal
-
-abbrev pub invariant-loop-warning : goal.invariant-loop-warning
-invariant-loop-warning l = errors_in l.self ≡ errors_in l.initial.self

@@ -1,5 +1,0 @@
-use Rattle.tmpl_report.proofs.PositionLemmas.{start_after}
-use Rattle.tmpl_report.proofs.reasons.position.after_space.Goals as goal
-
-pub returns-then-start-bytes-clause-start : goal.returns-then-start-bytes-clause-start
-returns-then-start-bytes-clause-start c = start_after c.args.bytes.now c.args.start c.space_len.result c.if-start-bytes.true c.space_len.ensures.value
