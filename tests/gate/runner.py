@@ -18,6 +18,7 @@ Debian has (tests/lib/tools.py). Tests run side by side; those that call make ru
 `rt ci` gives a check the processors that no other waits for, so that the longest chain of crates ends sooner; with RT_JOBS=N it has N checks of
 one job each, which takes a quarter less of the processors' time."""
 import argparse
+import contextlib
 import datetime
 import json
 import os
@@ -145,8 +146,10 @@ class Beside:
     processors, and where memory is free."""
 
     def __init__(self, names, its):
+        self.started = time.time()
         self.its, self.pool, self.lock = its, ThreadPoolExecutor(max(1, harness.processes() // 2)), threading.Lock()
         self.crates, self.tests = tried.TRIED if "tried" in names else (), [it for it in names if it in WITHIN]
+        self.reads = "edits" in names
         self.futures, self.begun, self.has_ended = {}, [], False
 
     def add(self, crate):
@@ -155,6 +158,8 @@ class Beside:
             self.futures[crate] = self.pool.submit(self.run, crate, self.try_bodies)
         if crate == "tmpl":
             self.futures.update({it: self.pool.submit(self.run, it, self.its.test_beside) for it in self.tests})
+        if crate == LAST[0] and self.reads:
+            self.futures["edits"] = self.pool.submit(self.run, "edits", self.read_edits)
 
     def begin(self, name):
         """Whether it is begun now."""
@@ -176,6 +181,11 @@ class Beside:
         came = run("tried", os.environ, lines.append, f"--proved {crate}", YIELDING)
         print(f"== tried {crate}", *lines, sep="\n", flush=True)
         return came
+
+    def read_edits(self, name):
+        """Reads the edits, once each library stands that a crate with edits uses."""
+        proved.mark(self.started)
+        return self.its.test_beside(name)
 
     def end(self):
         """Begins no more, and gives the crates of which wrong bodies are left."""
@@ -255,7 +265,7 @@ class Lanes:
         self.progress, self.words = progress, words
         self.processes = str(max(1, harness.processes() // (1 if lanes == 1 else 2)))
         self.pool = ThreadPoolExecutor(lanes)
-        self.by_make, self.shown = threading.Lock(), threading.Lock()
+        self.by_make, self.shown, self.yielding = threading.Lock(), threading.Lock(), threading.Lock()
         self.built, self.missing = {}, {}
         self.environment = {**os.environ, "PROCESSES": self.processes}
 
@@ -266,9 +276,11 @@ class Lanes:
                 self.built[name] = self.pool.submit(self.build_one, name, before)
 
     def build_one(self, name, before):
-        begun = time.time()
         words = [*before, sys.executable, f"{harness.TOP}/packaging/unproved.py", name]
-        ran = subprocess.run(words, stdout=subprocess.PIPE, stderr=subprocess.STDOUT, text=True, errors="replace")
+        # beside the proofs one after the other: several take from these even where they yield
+        with self.yielding if before else contextlib.nullcontext():
+            begun = time.time()
+            ran = subprocess.run(words, stdout=subprocess.PIPE, stderr=subprocess.STDOUT, text=True, errors="replace")
         with self.shown:
             print(f"-- built {name} without proofs in {time.time() - begun:.0f} s" if not ran.returncode else ran.stdout, flush=True)
         return ran.returncode == 0

@@ -23,13 +23,13 @@ use Rattle.tmpl_shape.proofs.MeetLemmas.{or-one, or-other}
 use Rattle.tmpl_shape.proofs.NameLemmas.{meant, shape-on}
 use Rattle.tmpl_shape.proofs.ShapeLemmas.{same_name, or_cases, items-has}
 use Rattle.tmpl_json_schema.specs.Document.{IsInstance, IsOfType, IsConstant, IsOneOf, HasKeys, SomeItem, EachItemOf, SomeMember, in_properties, is_property, FitsProperty, FitsProperties, FitsAdditional}
-use Rattle.tmpl_json_schema.specs.Document.{HasItems, FitsItems, FitsSome, FitsEach, FitsPattern, fragment_of, refer, ConformsBy, conforms_in, document_of, draft_of, draft_in, has_const, is_alone}
+use Rattle.tmpl_json_schema.specs.Document.{HasItems, FitsItems, FitsEach, FitsPattern, fragment_of, refer, ConformsBy, conforms_in, document_of, draft_of, draft_in, has_const, is_alone}
 use Rattle.tmpl_json_schema.specs.Document.{base_of, draft_alone, has_inner_base, is_since_2019, items_in}
 use Rattle.tmpl_json_schema.specs.declared.draft.Draft.{Draft}
 use Rattle.tmpl_json_schema.specs.declared.draft.Draft.TheVariants.{Draft2020}
 use Rattle.tmpl_json_schema.specs.declared.kinds.Kinds.{Kinds}
 use Rattle.tmpl_json_schema.specs.computed.Reading.{every_kind, both_kinds, types_in, const_in, enum_in, kinds_in, type_kinds, enum_kinds, constant_kind}
-use Rattle.tmpl_json_schema.specs.computed.Reading.{alternatives_in, by_kinds, count_of, least_in, or_else, rest_of, shape_of_rest, is_listed, leaves_in}
+use Rattle.tmpl_json_schema.specs.computed.Reading.{by_kinds, count_of, least_in, rest_of, shape_of_rest, is_listed, leaves_in}
 use Rattle.tmpl_json_schema.specs.computed.Reading.{if_listed, is_required, is_unread, listed_in, required_fields, required_in}
 use Rattle.tmpl_json_schema.specs.computed.Fitting.{Adds, Additional, AreShared, At, Conforms, Context, Has, HasFields, HasKind, IsBeside, IsDefinition, IsReadOf, IsSound, ItemOf, Keeps, NamesIn}
 use Rattle.tmpl_json_schema.specs.computed.Fitting.{Plain, PlainOf, Referred, Whole, WithEachOf, WithEachProperty, WithProperties}
@@ -179,14 +179,6 @@ looked-up c p d s e h = λ sound n v x. inside c d s h sound n v (at (Conforms c
 
 pub kinds-of : (d : Data) (ks : Kinds) (C : Data → Value → Type 0) (v : Value) → kinds_in d ≡ Some ks → Plain d C v → HasKind ks v
 kinds-of d ks C v e h = kinds-has d ks v e h.0 h.1 h.2 h.3
-
-pub chosen : (d l : Data) (C : Data → Value → Type 0) (v : Value) → alternatives_in d ≡ Some l → Plain d C v → FitsSome C v l
-chosen d l C v e h = by (get (codes "anyOf") d) (get (codes "oneOf") d) h.9 h.10 e
-  where
-    by : (o p : Option Data) → IfSome o (FitsSome C v) → IfSome p (FitsSome C v) → or_else o p ≡ Some l → FitsSome C v l
-    by None None x y f = absurd (not-some l f)
-    by None (Some d) x y f = is-some (FitsSome C v) d l f y
-    by (Some d) p x y f = is-some (FitsSome C v) d l f x
 
 pub all-of : (d l : Data) (C : Data → Value → Type 0) (v : Value) → get (codes "allOf") d ≡ Some l → Plain d C v → FitsEach C v l
 all-of d l C v e h = subst (λ (o : Option Data). IfSome o (FitsEach C v)) e h.11

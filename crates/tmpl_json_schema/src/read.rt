@@ -2,7 +2,7 @@
 //! the shape wider.
 #![tactic(auto, using(tmpl_shape::proofs::ViewLemmas::parts))]
 
-ghost use Rattle.std.specs.Prelude.{◌≡◌, IfOk, OnOk, Some, codes, false};
+ghost use Rattle.std.specs.Prelude.{◌≡◌, IfOk, IfSome, OnOk, Some, codes, false};
 ghost use Rattle.std.specs.Option.{option_and_then, option_map};
 ghost use Rattle.serde_json.specs.Find.{get};
 ghost use Rattle.serde_json.specs.View.{items_view, members_view, view};
@@ -112,6 +112,12 @@ pub(crate) fn has_applicators(schema: &Value) -> bool {
     alternatives_in(schema).is_some() || schema.get("allOf").is_some()
 }
 
+/// Whether its own shape tells more than its kinds.
+fn tells_more(schema: &Value) -> bool {
+    let has_constants = schema.get("const").is_some() || schema.get("enum").is_some();
+    has_constants || has_content(schema) || has_applicators(schema)
+}
+
 /// The shape of a schema, in which as many levels are read as there are steps.
 #[cycle(read)]
 pub(crate) fn shape_by(reader: &Reader<'_>, steps: usize, schema: &Value) -> Read
@@ -210,10 +216,15 @@ fn reference_shape(
     ensures { IfOk result (λ s. is_unread reader.now.draft (view schema.now) ≡ false
         → Has (context_of reader.now) (Referred (context_of reader.now) (view schema.now) pointer) (shape_of s)) }
 {
-    if reader.draft.is_since_2019() && (has_content(schema) || has_applicators(schema)) {
+    if reader.draft.is_since_2019() && tells_more(schema) {
         let target = look_up(reader, steps, pointer.as_slice())?;
         let own = own_shape(reader, steps, schema)?;
         return Ok(meet_shapes(reader, target, own)?);
+    }
+    if reader.draft.is_since_2019() && schema.get("type").is_some() {
+        let target = look_up(reader, steps, pointer.as_slice())?;
+        let kinds = kinds_in(reader.alloc, schema)?;
+        return Ok(keep_kinds(reader.alloc, kinds, target)?);
     }
     if is_met {
         return look_up(reader, steps, pointer.as_slice());
@@ -272,17 +283,31 @@ fn own_shape(reader: &Reader<'_>, steps: usize, schema: &Value) -> Read
     Ok(keep_kinds(reader.alloc, kinds, shape)?)
 }
 
-/// The shape, met with that of the alternatives and with that of each part of `allOf`.
+/// The shape, met with those of the alternatives and with that of each part of `allOf`.
 #[cycle(read)]
 fn with_applicators(reader: &Reader<'_>, steps: usize, schema: &Value, shape: Shape) -> Read
     ensures { IfOk result (λ s. Keeps (context_of reader.now) (Plain (view schema.now)) (shape_of shape) (shape_of s)) }
 {
-    match alternatives_in(schema) {
-        Some(choices) => {
-            let shape = with_choices(reader, steps, schema, shape, choices)?;
-            with_all_of(reader, steps, schema, shape)
-        }
-        None => with_all_of(reader, steps, schema, shape),
+    let shape = with_alternatives(reader, steps, schema, "anyOf", shape)?;
+    let shape = with_alternatives(reader, steps, schema, "oneOf", shape)?;
+    with_all_of(reader, steps, schema, shape)
+}
+
+/// The shape, met with that of the alternatives under a keyword, if it is there.
+#[cycle(read)]
+fn with_alternatives(
+    reader: &Reader<'_>,
+    steps: usize,
+    schema: &Value,
+    keyword: &'static str,
+    shape: Shape,
+) -> Read
+    ensures { IfOk result (λ s. Keeps (context_of reader.now) (λ C v. IfSome (get keyword.now (view schema.now)) (FitsSome C v))
+        (shape_of shape) (shape_of s)) }
+{
+    match schema.get(keyword) {
+        Some(choices) => with_choices(reader, steps, keyword, shape, choices),
+        None => Ok(shape),
     }
 }
 
@@ -297,13 +322,13 @@ fn with_all_of(reader: &Reader<'_>, steps: usize, schema: &Value, shape: Shape) 
     }
 }
 
-/// The shape, met with that of the alternatives, unless these are many: each would have all that the shape has.
+/// The shape, met with that of the alternatives of a keyword, unless these are many: each would have all that the shape has.
 #[cycle(read)]
 #[inline(never)]
 fn with_choices(
     reader: &Reader<'_>,
     steps: usize,
-    schema: &Value,
+    keyword: &'static str,
     shape: Shape,
     choices: &Value,
 ) -> Read
@@ -324,7 +349,7 @@ fn with_choices(
             }
             Ok(meet_shapes(reader, shape, choice)?)
         }
-        Err(fault) => Err(under(reader.alloc, fault, chosen_by(schema))),
+        Err(fault) => Err(under(reader.alloc, fault, keyword)),
     }
 }
 

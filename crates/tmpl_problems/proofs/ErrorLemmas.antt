@@ -1,5 +1,5 @@
 -- The errors among what is found, those of one more file, and those of data.
-use Rattle.std.proofs.Common.{◌≡◌, ◌==◌, ◌∙◌, ◌++◌, ◌||◌, Bool, true, false, ℕ, List, [], ◌∷◌, Option, Some, None, ap, append-nil, append_assoc, arith, cond, if◌then◌else◌, is_none, map, not, refl, subst, sym, take}
+use Rattle.std.proofs.Common.{◌≡◌, ◌==◌, ◌∙◌, ◌++◌, ◌||◌, Bool, true, false, ℕ, List, [], ◌∷◌, Option, Some, None, ap, append-nil, append_assoc, arith, cond, if◌then◌else◌, is_none, map, not, refl, subst, sym}
 use Rattle.std.specs.Prelude.{codes}
 use Rattle.std.specs.List.{AllByRecursion}
 use Rattle.std.proofs.lemmas.Grind.{common_steps}
@@ -11,12 +11,12 @@ use Rattle.tmpl_problems.specs.declared.data_check.DataReason.{DataReason}
 use Rattle.tmpl_problems.specs.declared.problem.Problem.{Problem}
 use Rattle.tmpl_problems.specs.declared.problem.Problems.{Problems}
 use Rattle.tmpl_problems.specs.declared.source.Source.{Source}
-use Rattle.tmpl_problems.specs.declared.entry.Level.{Level}
-use Rattle.tmpl_problems.specs.declared.entry.Level.TheVariants.{Error, Warning}
+use Rattle.tmpl_problems.specs.declared.finding.Level.{Level}
+use Rattle.tmpl_problems.specs.declared.finding.Level.TheVariants.{Error, Warning}
 use Rattle.tmpl_problems.specs.Errors.{AreOfFile, AreOfFiles, AreOfReason, IsOfReason, data_rule_for, error_at, error_of, errors_in, errors_of, left_in}
 use Rattle.tmpl_problems.specs.Finding.{Finding, has_error}
 use Rattle.tmpl_problems.specs.Level.{is_error}
-use Rattle.tmpl_problems.specs.computed.Entries.{AddsOfReason, HasMore}
+use Rattle.tmpl_problems.specs.computed.Added.{AddsOfReason, HasMore}
 
 pub errors_in-append : (xs ys : List Finding) → errors_in (xs ++ ys) ≡ errors_in xs ++ errors_in ys
 errors_in-append xs ys = filter-append (λ f. is_error f.level) xs ys

@@ -5,8 +5,8 @@ use Rattle.std.specs.Option.{option_map_or}
 use Rattle.serde_json.proofs.OnLiterals.{serde_json_on_literals}
 use Rattle.serde_json.specs.Data.{Data, array, item, no_items, number, string, unsigned}
 use Rattle.serde_json.specs.Written.{compact_text}
-use Rattle.tmpl_problems.specs.declared.entry.Level.{Level}
-use Rattle.tmpl_problems.specs.declared.entry.Level.TheVariants.{Error, Warning}
+use Rattle.tmpl_problems.specs.declared.finding.Level.{Level}
+use Rattle.tmpl_problems.specs.declared.finding.Level.TheVariants.{Error, Warning}
 use Rattle.tmpl_problems.specs.Finding.{Finding}
 use Rattle.tmpl_problems.specs.Json.{item_of, object_of}
 use Rattle.tmpl_problems.specs.Level.{word_of}

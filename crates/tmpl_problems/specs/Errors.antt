@@ -13,7 +13,7 @@ use Rattle.tmpl_problems.specs.Level.{is_error}
 use Rattle.tmpl_problems.specs.Line.{left_words, reason_with, text_of}
 use Rattle.tmpl_problems.specs.declared.data_check.DataReason.{DataReason}
 use Rattle.tmpl_problems.specs.declared.data_check.DataReason.TheVariants as reason
-use Rattle.tmpl_problems.specs.declared.entry.Level.TheVariants.{Error}
+use Rattle.tmpl_problems.specs.declared.finding.Level.TheVariants.{Error}
 use Rattle.tmpl_problems.specs.declared.source.Source.{Source}
 use Rattle.tmpl_problems.specs.declared.problem.Problem.{Problem}
 use Rattle.tmpl_problems.specs.declared.problem.Problems.{Problems}

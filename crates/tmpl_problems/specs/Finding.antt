@@ -1,7 +1,7 @@
 -- Something that is found.
 use Rattle.std.specs.Prelude.{ℕ, Bool, List, Option}
 use Rattle.std.specs.List.{list_any}
-use Rattle.tmpl_problems.specs.declared.entry.Level.{Level}
+use Rattle.tmpl_problems.specs.declared.finding.Level.{Level}
 use Rattle.tmpl_problems.specs.Level.{is_error}
 
 -- what is found at a place of a file, the rule that it breaks, and a note, if there is one

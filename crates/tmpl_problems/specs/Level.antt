@@ -1,7 +1,7 @@
 -- How grave something is that is found.
 use Rattle.std.specs.Prelude.{ℕ, List, Bool, true, false, codes}
-use Rattle.tmpl_problems.specs.declared.entry.Level.{Level}
-use Rattle.tmpl_problems.specs.declared.entry.Level.TheVariants.{Error, Warning}
+use Rattle.tmpl_problems.specs.declared.finding.Level.{Level}
+use Rattle.tmpl_problems.specs.declared.finding.Level.TheVariants.{Error, Warning}
 
 -- it is an error, and no warning
 abbrev pub is_error : Level → Bool

@@ -6,7 +6,6 @@ use Rattle.std.specs.Str.{chars}
 use Rattle.tmpl_values.specs.Quote.{spelling}
 use Rattle.tmpl_values.specs.Rune.{char}
 use Rattle.tmpl_problems.specs.declared.problem.Problem.{Problem}
-use Rattle.tmpl_problems.specs.declared.problem.Problems.{Problems}
 use Rattle.tmpl_problems.specs.Words.{words_for}
 
 -- the character of this code is not written as it is: a control character, one that ends a line or a paragraph, or one that turns the direction

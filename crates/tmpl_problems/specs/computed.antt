@@ -1,4 +1,4 @@
 pub mod Adds
-pub mod Entries
+pub mod Added
 pub mod Failing
 pub mod Follows

@@ -9,11 +9,11 @@ ghost use Rattle.tmpl_problems.specs.Errors.{AreOfData, AreOfFile, AreOfFiles, A
 ghost use Rattle.tmpl_problems.specs.Errors.{error_of, errors_in, errors_of, left_in};
 ghost use Rattle.tmpl_problems.specs.Finding.{Finding, has_error};
 ghost use Rattle.tmpl_problems.specs.Told.{told};
-ghost use Rattle.tmpl_problems.specs.computed.Entries.{AddsOfReason, HasMore, is_same, warning_of};
+ghost use Rattle.tmpl_problems.specs.computed.Added.{AddsOfReason, HasMore, is_same, warning_of};
 
 use crate::check::check_file;
 use crate::data_check::{DataProblem, DataReason, check_data};
-use crate::entry::{Entry, Level};
+use crate::finding::{Finding, Level};
 use crate::line::{left_text, problem_text, reason_text};
 use crate::problem::{MOST_PROBLEMS, Problem, Problems};
 use crate::rule::{
@@ -46,8 +46,9 @@ pub enum Format {
 /// What is found, file by file. Contracts see the list of it, in the order in which it is printed.
 #[derive(Drop)]
 pub struct Findings<'a> {
+    /// What gives it memory.
     pub alloc: Global,
-    entries: Vec<Entry<'a>>,
+    items: Vec<Finding<'a>>,
 }
 
 impl<'a> Model for Findings<'a> {
@@ -56,7 +57,7 @@ impl<'a> Model for Findings<'a> {
 
     ghost Value = { List Finding };
 
-    ghost view = { λ f. f.entries.items };
+    ghost view = { λ f. f.items.items };
 }
 
 /// The templates of all files, by their names.
@@ -73,7 +74,7 @@ impl<'a> Findings<'a> {
     {
         Findings {
             alloc,
-            entries: Vec::new(alloc),
+            items: Vec::new(alloc),
         }
     }
 
@@ -81,14 +82,14 @@ impl<'a> Findings<'a> {
     pub fn has_errors(&self) -> bool
         ensures { result ≡ has_error self.now }
     {
-        self.entries.iter().any(|entry| entry.is_error())
+        self.items.iter().any(|finding| finding.is_error())
     }
 
     /// Whether there are none, and no warnings either.
     pub fn is_empty(&self) -> bool
         ensures { result ≡ (length self.now == 0) }
     {
-        self.entries.is_empty()
+        self.items.is_empty()
     }
 
     /// The text of the report, as it is printed.
@@ -99,36 +100,48 @@ impl<'a> Findings<'a> {
     pub fn text(&self, alloc: Global, format: Format) -> Result<String, AllocError>
         ensures { IfOk result (λ t. string_bytes t ≡ told format self.now) }
     {
-        let entries = self.entries.as_slice();
+        let findings = self.items.as_slice();
         match format {
-            Format::Text => line::lines(alloc, entries),
-            Format::Json => json::document(alloc, entries),
-            Format::Sarif => sarif::document(alloc, entries),
+            Format::Text => line::lines(alloc, findings),
+            Format::Json => json::document(alloc, findings),
+            Format::Sarif => sarif::document(alloc, findings),
         }
     }
 
     /// Adds what is found.
-    pub fn add(&mut self, entry: Entry<'a>) -> Result<()>
-        ensures { OnOk result (self.new ≡ self.old ++ entry.entry ∷ []) }
+    ///
+    /// # Errors
+    ///
+    /// Where memory ran out.
+    pub fn add(&mut self, finding: Finding<'a>) -> Result<()>
+        ensures { OnOk result (self.new ≡ self.old ++ finding.entry ∷ []) }
     {
-        self.entries.push(entry)?;
+        self.items.push(finding)?;
         Ok(())
     }
 
     /// Adds what is found, unless the same was found before.
-    pub fn add_once(&mut self, entry: Entry<'a>) -> Result<()>
-        ensures added { OnOk result (self.new ≡ (if list_any (λ other. is_same other entry.entry) self.old
-            then self.old else self.old ++ entry.entry ∷ [])) }
+    ///
+    /// # Errors
+    ///
+    /// Where memory ran out.
+    pub fn add_once(&mut self, finding: Finding<'a>) -> Result<()>
+        ensures added { OnOk result (self.new ≡ (if list_any (λ other. is_same other finding.entry) self.old
+            then self.old else self.old ++ finding.entry ∷ [])) }
         ensures more { OnOk result (HasMore self.old self.new) }
     {
-        if has_same(self.entries.as_slice(), &entry) {
+        if has_same(self.items.as_slice(), &finding) {
             return Ok(());
         }
-        self.add(entry)?;
+        self.add(finding)?;
         Ok(())
     }
 
     /// Adds what is wrong in a file: first what is refused.
+    ///
+    /// # Errors
+    ///
+    /// Where memory ran out; some of it may then have been added.
     pub fn add_problems(&mut self, file: &'a str, problems: &Problems) -> Result<()>
         ensures { OnOk result (self.new ≡ self.old ++ errors_of file.now problems.now) }
     {
@@ -145,7 +158,7 @@ impl<'a> Findings<'a> {
             return Ok(());
         }
         let text = left_text(self.alloc, left)?;
-        self.add(Entry::error(file, (1, 1), TOO_MANY_ERRORS, text))?;
+        self.add(Finding::error(file, (1, 1), TOO_MANY_ERRORS, text))?;
         Ok(())
     }
 
@@ -157,19 +170,23 @@ impl<'a> Findings<'a> {
             let refused = &problem.refused;
             let place = (refused.line, refused.column);
             let text = problem_text(self.alloc, problem)?;
-            self.add(Entry::error(file, place, rule_of(refused.kind), text))?;
+            self.add(Finding::error(file, place, rule_of(refused.kind), text))?;
         }
         Ok(())
     }
 
     /// Adds a warning.
+    ///
+    /// # Errors
+    ///
+    /// Where memory ran out.
     pub fn warn(&mut self, file: &'a str, place: (u64, u64), rule: Rule, text: String) -> Result<()>
         ensures added { OnOk result
             (self.new ≡ self.old ++ warning_of file.now place rule.id.now (string_bytes text) ∷ []) }
         ensures errors { OnOk result (errors_in self.new ≡ errors_in self.old) }
         ensures has_error { OnOk result (has_error self.new ≡ has_error self.old) }
     {
-        self.add(Entry {
+        self.add(Finding {
             file,
             level: Level::Warning,
             line: place.0,
@@ -287,7 +304,7 @@ impl<'a> Findings<'a> {
     ///
     /// # Errors
     ///
-    /// Where memory ran out.
+    /// Where memory ran out; some of it may then have been added.
     pub fn add_files(
         &mut self,
         hash: NameHash,
@@ -372,6 +389,10 @@ impl<'a> Findings<'a> {
     }
 
     /// Adds what is wrong in data. Whether it has a value.
+    ///
+    /// # Errors
+    ///
+    /// Where memory ran out; some of it may then have been added.
     pub fn add_data(&mut self, data: &Source<'a>) -> Result<bool>
         ensures accepted { IfOk result (λ accepted. accepted ≡ true
             → (value : Value) × (data_of «data».now.bytes.items ≡ Ok value)) }
@@ -450,16 +471,16 @@ impl<'a> Findings<'a> {
             None => ((1, 1), ""),
         };
         let text = reason_text(self.alloc, reason.words(), detail)?;
-        self.add(Entry::error(file, place, data_rule_of(reason), text))?;
+        self.add(Finding::error(file, place, data_rule_of(reason), text))?;
         Ok(())
     }
 }
 
 /// Whether one of these says the same of the same place.
-fn has_same(entries: &[Entry<'_>], entry: &Entry<'_>) -> bool
-    ensures { result ≡ list_any (λ other. is_same other entry.now) entries.now }
+fn has_same(findings: &[Finding<'_>], finding: &Finding<'_>) -> bool
+    ensures { result ≡ list_any (λ other. is_same other finding.now) findings.now }
 {
-    entries.iter().any(|other| other.is_same(entry))
+    findings.iter().any(|other| other.is_same(finding))
 }
 
 /// The surveys of files.

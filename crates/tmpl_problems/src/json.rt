@@ -7,26 +7,26 @@ ghost use Rattle.tmpl_hints.specs.Sentence.{Adds};
 ghost use Rattle.tmpl_problems.specs.Json.{item_of, json_of, lines_between};
 
 use crate::Result;
-use crate::entry::Entry;
+use crate::finding::Finding;
 use serde_json::Value;
 use std::alloc::Global;
 use tmpl_hints::Sentence;
 
 /// An object with a list of what is found.
-pub(crate) fn document(alloc: Global, entries: &[Entry<'_>]) -> Result<String>
-    ensures { IfOk result (λ t. string_bytes t ≡ json_of entries.now) }
+pub(crate) fn document(alloc: Global, findings: &[Finding<'_>]) -> Result<String>
+    ensures { IfOk result (λ t. string_bytes t ≡ json_of findings.now) }
 {
     let said = Sentence::new(alloc).say("{\"problems\":[");
-    say_items(alloc, said, entries)?.say("\n]}\n").finish()
+    say_items(alloc, said, findings)?.say("\n]}\n").finish()
 }
 
 /// Says what is found, each as an object on a line of its own.
-fn say_items(alloc: Global, said: Sentence, entries: &[Entry<'_>]) -> Result<Sentence>
-    ensures { IfOk result (λ s. Adds said s (lines_between (map (λ f. compact_text (item_of f)) entries.now))) }
+fn say_items(alloc: Global, said: Sentence, findings: &[Finding<'_>]) -> Result<Sentence>
+    ensures { IfOk result (λ s. Adds said s (lines_between (map (λ f. compact_text (item_of f)) findings.now))) }
 {
     let mut said = said;
-    for (index, entry) in entries.iter().enumerate() {
-        said = say_item(alloc, said.say(line_before(index)), entry)?;
+    for (index, finding) in findings.iter().enumerate() {
+        said = say_item(alloc, said.say(line_before(index)), finding)?;
     }
     Ok(said)
 }
@@ -39,28 +39,28 @@ pub(crate) fn line_before(index: usize) -> &'static str
 }
 
 /// Says what is found as an object.
-fn say_item(alloc: Global, said: Sentence, entry: &Entry<'_>) -> Result<Sentence>
-    ensures { IfOk result (λ s. Adds said s (compact_text (item_of entry.now))) }
+fn say_item(alloc: Global, said: Sentence, finding: &Finding<'_>) -> Result<Sentence>
+    ensures { IfOk result (λ s. Adds said s (compact_text (item_of finding.now))) }
 {
-    let said = say_quoted(alloc, said.say("{\"file\":"), entry.file)?
+    let said = say_quoted(alloc, said.say("{\"file\":"), finding.file)?
         .say(",\"line\":")
-        .count(entry.line)
+        .count(finding.line)
         .say(",\"column\":")
-        .count(entry.column)
+        .count(finding.column)
         .say(",\"level\":\"")
-        .say(entry.level.word())
+        .say(finding.level.word())
         .say("\",\"rule\":");
-    let said = say_quoted(alloc, said, entry.rule.id)?.say(",\"text\":");
-    let said = say_quoted(alloc, said, entry.text.as_str())?;
-    Ok(say_note(alloc, said, entry)?.say("}"))
+    let said = say_quoted(alloc, said, finding.rule.id)?.say(",\"text\":");
+    let said = say_quoted(alloc, said, finding.text.as_str())?;
+    Ok(say_note(alloc, said, finding)?.say("}"))
 }
 
 /// Writes the note, if there is one, as one more member.
-fn say_note(alloc: Global, said: Sentence, entry: &Entry<'_>) -> Result<Sentence>
+fn say_note(alloc: Global, said: Sentence, finding: &Finding<'_>) -> Result<Sentence>
     ensures { IfOk result (λ s. Adds said s (option_map_or (λ note. codes ",\"note\":" ++ compact_text (string note))
-        entry.now.note [])) }
+        finding.now.note [])) }
 {
-    match &entry.note {
+    match &finding.note {
         Some(note) => say_quoted(alloc, said.say(",\"note\":"), note.as_str()),
         None => Ok(said),
     }

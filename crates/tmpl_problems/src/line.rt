@@ -7,37 +7,37 @@ ghost use Rattle.tmpl_problems.specs.Line.{is_hidden, left_words, line_of, place
 ghost use Rattle.tmpl_problems.specs.Told.{lines_of};
 
 use crate::Result;
-use crate::entry::Entry;
+use crate::finding::Finding;
 use crate::problem::Problem;
 use crate::reason::reason_words;
 use std::alloc::Global;
 use tmpl_values::digit;
 
 /// A line for each finding, and one for the note of it.
-pub(crate) fn lines(alloc: Global, entries: &[Entry<'_>]) -> Result<String>
-    ensures { IfOk result (λ t. string_bytes t ≡ flat_map lines_of entries.now) }
+pub(crate) fn lines(alloc: Global, findings: &[Finding<'_>]) -> Result<String>
+    ensures { IfOk result (λ t. string_bytes t ≡ flat_map lines_of findings.now) }
 {
     let mut out = String::new(alloc);
-    for entry in entries {
-        push_lines(&mut out, entry)?;
+    for finding in findings {
+        push_lines(&mut out, finding)?;
     }
     Ok(out)
 }
 
 /// Adds the line of a finding, and that of its note.
-fn push_lines(out: &mut String, entry: &Entry<'_>) -> Result<()>
-    ensures { OnOk result (string_bytes out.new ≡ string_bytes out.old ++ lines_of entry.now) }
+fn push_lines(out: &mut String, finding: &Finding<'_>) -> Result<()>
+    ensures { OnOk result (string_bytes out.new ≡ string_bytes out.old ++ lines_of finding.now) }
 {
-    let file = entry.file;
-    let place = (entry.line, entry.column);
+    let file = finding.file;
+    let place = (finding.line, finding.column);
     push_line(
         &mut *out,
         file,
         place,
-        entry.level.word(),
-        entry.text.as_str(),
+        finding.level.word(),
+        finding.text.as_str(),
     )?;
-    match &entry.note {
+    match &finding.note {
         Some(note) => push_line(out, file, place, "note", note.as_str()),
         None => Ok(()),
     }

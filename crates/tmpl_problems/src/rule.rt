@@ -6,10 +6,12 @@ ghost use Rattle.tmpl_problems.specs.Rules.{rules};
 use crate::data_check::DataReason;
 use tmpl_syntax::ParseKind;
 
-/// A rule: its name, in words with hyphens, and what it asks for.
+/// A rule.
 #[derive(Clone, Copy)]
 pub struct Rule {
+    /// Its name, in words with hyphens.
     pub id: &'static str,
+    /// What it asks for.
     pub text: &'static str,
 }
 

@@ -8,7 +8,7 @@ ghost use Rattle.tmpl_problems.specs.Json.{lines_between};
 ghost use Rattle.tmpl_problems.specs.Sarif.{descriptor_of, locations_of, log_of, message_of, place_of, result_of, uri_of};
 
 use crate::Result;
-use crate::entry::Entry;
+use crate::finding::Finding;
 use crate::json::{line_before, say_quoted};
 use crate::rule::{Rule, all_rules};
 use percent_encoding::{AsciiSet, NON_ALPHANUMERIC, ascii_set, utf8_percent_encode};
@@ -33,11 +33,11 @@ const ESCAPED_IN_PATHS: AsciiSet = ascii_set!(
 );
 
 /// A log of one run.
-pub(crate) fn document(alloc: Global, entries: &[Entry<'_>]) -> Result<String>
-    ensures { IfOk result (λ t. string_bytes t ≡ log_of entries.now) }
+pub(crate) fn document(alloc: Global, findings: &[Finding<'_>]) -> Result<String>
+    ensures { IfOk result (λ t. string_bytes t ≡ log_of findings.now) }
 {
     let said = say_rules(alloc, Sentence::new(alloc).say(BEGINNING), &all_rules())?;
-    say_results(alloc, said.say(MIDDLE), entries)?
+    say_results(alloc, said.say(MIDDLE), findings)?
         .say("\n]}]}\n")
         .finish()
 }
@@ -63,27 +63,27 @@ fn say_rule(alloc: Global, said: Sentence, rule: &Rule) -> Result<Sentence>
 }
 
 /// Says what is found, each as a result on a line of its own.
-fn say_results(alloc: Global, said: Sentence, entries: &[Entry<'_>]) -> Result<Sentence>
-    ensures { IfOk result (λ s. Adds said s (lines_between (map (λ f. compact_text (result_of f)) entries.now))) }
+fn say_results(alloc: Global, said: Sentence, findings: &[Finding<'_>]) -> Result<Sentence>
+    ensures { IfOk result (λ s. Adds said s (lines_between (map (λ f. compact_text (result_of f)) findings.now))) }
 {
     let mut said = said;
-    for (index, entry) in entries.iter().enumerate() {
-        said = say_result(alloc, said.say(line_before(index)), entry)?;
+    for (index, finding) in findings.iter().enumerate() {
+        said = say_result(alloc, said.say(line_before(index)), finding)?;
     }
     Ok(said)
 }
 
 /// Says what is found as a result.
-fn say_result(alloc: Global, said: Sentence, entry: &Entry<'_>) -> Result<Sentence>
-    ensures { IfOk result (λ s. Adds said s (compact_text (result_of entry.now))) }
+fn say_result(alloc: Global, said: Sentence, finding: &Finding<'_>) -> Result<Sentence>
+    ensures { IfOk result (λ s. Adds said s (compact_text (result_of finding.now))) }
 {
-    let said = say_quoted(alloc, said.say("{\"ruleId\":"), entry.rule.id)?
+    let said = say_quoted(alloc, said.say("{\"ruleId\":"), finding.rule.id)?
         .say(",\"level\":\"")
-        .say(entry.level.word())
+        .say(finding.level.word())
         .say("\",\"message\":");
-    let said = say_message(alloc, said, entry.text.as_str())?.say(",\"locations\":");
-    let said = say_here(alloc, said, entry)?;
-    Ok(say_note(alloc, said, entry)?.say("}"))
+    let said = say_message(alloc, said, finding.text.as_str())?.say(",\"locations\":");
+    let said = say_here(alloc, said, finding)?;
+    Ok(say_note(alloc, said, finding)?.say("}"))
 }
 
 /// Says a text as SARIF has it.
@@ -94,15 +94,15 @@ fn say_message(alloc: Global, said: Sentence, text: &str) -> Result<Sentence>
 }
 
 /// Writes the note, if there is one, as one more property.
-fn say_note(alloc: Global, said: Sentence, entry: &Entry<'_>) -> Result<Sentence>
+fn say_note(alloc: Global, said: Sentence, finding: &Finding<'_>) -> Result<Sentence>
     ensures { IfOk result (λ s. Adds said s (option_map_or (λ note. codes ",\"relatedLocations\":"
-        ++ compact_text (locations_of entry.now ((codes "message", message_of note) ∷ []))) entry.now.note [])) }
+        ++ compact_text (locations_of finding.now ((codes "message", message_of note) ∷ []))) finding.now.note [])) }
 {
-    match &entry.note {
+    match &finding.note {
         Some(note) => say_related(
             alloc,
             said.say(",\"relatedLocations\":"),
-            entry,
+            finding,
             note.as_str(),
         ),
         None => Ok(said),
@@ -110,36 +110,36 @@ fn say_note(alloc: Global, said: Sentence, entry: &Entry<'_>) -> Result<Sentence
 }
 
 /// Says where it is, as the one location of a list.
-fn say_here(alloc: Global, said: Sentence, entry: &Entry<'_>) -> Result<Sentence>
-    ensures { IfOk result (λ s. Adds said s (compact_text (locations_of entry.now []))) }
+fn say_here(alloc: Global, said: Sentence, finding: &Finding<'_>) -> Result<Sentence>
+    ensures { IfOk result (λ s. Adds said s (compact_text (locations_of finding.now []))) }
 {
-    let said = say_place(alloc, said.say("[{\"physicalLocation\":"), entry)?;
+    let said = say_place(alloc, said.say("[{\"physicalLocation\":"), finding)?;
     Ok(said.say("}]"))
 }
 
 /// The same, with a text.
-fn say_related(alloc: Global, said: Sentence, entry: &Entry<'_>, text: &str) -> Result<Sentence>
+fn say_related(alloc: Global, said: Sentence, finding: &Finding<'_>, text: &str) -> Result<Sentence>
     ensures { IfOk result (λ s. Adds said s
-        (compact_text (locations_of entry.now ((codes "message", message_of text.now) ∷ [])))) }
+        (compact_text (locations_of finding.now ((codes "message", message_of text.now) ∷ [])))) }
 {
     let said = say_message(alloc, said.say("[{\"message\":"), text)?.say(",\"physicalLocation\":");
-    Ok(say_place(alloc, said, entry)?.say("}]"))
+    Ok(say_place(alloc, said, finding)?.say("}]"))
 }
 
 /// Says where it is.
-fn say_place(alloc: Global, said: Sentence, entry: &Entry<'_>) -> Result<Sentence>
-    ensures { IfOk result (λ s. Adds said s (compact_text (place_of entry.now))) }
+fn say_place(alloc: Global, said: Sentence, finding: &Finding<'_>) -> Result<Sentence>
+    ensures { IfOk result (λ s. Adds said s (compact_text (place_of finding.now))) }
 {
-    let uri = uri_of(alloc, entry.file)?;
+    let uri = uri_of(alloc, finding.file)?;
     let said = say_quoted(
         alloc,
         said.say("{\"artifactLocation\":{\"uri\":"),
         uri.as_str(),
     )?
     .say("},\"region\":{\"startLine\":")
-    .count(entry.line)
+    .count(finding.line)
     .say(",\"startColumn\":")
-    .count(entry.column)
+    .count(finding.column)
     .say("}}");
     Ok(said)
 }

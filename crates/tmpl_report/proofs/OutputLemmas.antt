@@ -6,9 +6,9 @@ use Rattle.tmpl_problems.specs.Errors.{errors_in}
 use Rattle.tmpl_report.specs.Errors.{IsNotOfFormat}
 use Rattle.tmpl_problems.specs.Finding.{Finding, has_error}
 use Rattle.tmpl_problems.specs.Level.{is_error}
-use Rattle.tmpl_report.specs.computed.Entries.{AddsBroken, AddsOfOutput}
-use Rattle.tmpl_problems.specs.declared.entry.Level.{Level}
-use Rattle.tmpl_problems.specs.declared.entry.Level.TheVariants.{Error, Warning}
+use Rattle.tmpl_report.specs.computed.Added.{AddsBroken, AddsOfOutput}
+use Rattle.tmpl_problems.specs.declared.finding.Level.{Level}
+use Rattle.tmpl_problems.specs.declared.finding.Level.TheVariants.{Error, Warning}
 use Rattle.tmpl_report.specs.declared.source.Question.{Question}
 use Rattle.tmpl_problems.proofs.ErrorLemmas.{all-more, errors_in-append, found-in, none-after}
 

@@ -4,11 +4,11 @@ use Rattle.std.proofs.lemmas.List.{append-nil}
 use Rattle.std.specs.List.{AllByRecursion, list_any}
 use Rattle.std.specs.Str.{bytes_eq}
 use Rattle.std.proofs.lemmas.Slice.Eq.{bytes_eq-Decides}
-use Rattle.tmpl_problems.specs.declared.entry.Level.TheVariants.{Error}
+use Rattle.tmpl_problems.specs.declared.finding.Level.TheVariants.{Error}
 use Rattle.tmpl_problems.specs.Errors.{errors_in}
 use Rattle.tmpl_problems.specs.Finding.{Finding, has_error}
 use Rattle.tmpl_report.specs.Rendered.{IsOfFault, IsRenderedOver, IsUnfit, fault_by, is_cut, is_limit}
-use Rattle.tmpl_report.specs.computed.Entries.{AddsFault, AddsFaults, AddsUnfit}
+use Rattle.tmpl_report.specs.computed.Added.{AddsFault, AddsFaults, AddsUnfit}
 use Rattle.tmpl_report.specs.declared.source.Question.{Question}
 use Rattle.tmpl_problems.specs.declared.source.Source.{Source}
 use Rattle.tmpl_values.specs.Json.{data_of, Flaw}

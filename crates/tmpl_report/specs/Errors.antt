@@ -4,7 +4,7 @@ use Rattle.std.specs.List.{AllByRecursion}
 use Rattle.tmpl_syntax.specs.Set.{Template}
 use Rattle.tmpl_problems.specs.Errors.{AreOfData, AreOfFiles}
 use Rattle.tmpl_problems.specs.Finding.{Finding, has_error}
-use Rattle.tmpl_problems.specs.declared.entry.Level.TheVariants.{Error}
+use Rattle.tmpl_problems.specs.declared.finding.Level.TheVariants.{Error}
 use Rattle.tmpl_problems.specs.declared.source.Source.{Source}
 use Rattle.tmpl_report.specs.Rendered.{AreOfValues}
 use Rattle.tmpl_report.specs.declared.source.Question.{Question}

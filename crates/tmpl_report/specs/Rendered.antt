@@ -17,7 +17,7 @@ use Rattle.tmpl_json_schema.specs.Document.{IsOfSchema, document_of}
 use Rattle.tmpl_report.specs.Failing.{fault_over}
 use Rattle.tmpl_problems.specs.Finding.{Finding}
 use Rattle.tmpl_report.specs.Safe.{AreAccepted, asked_name}
-use Rattle.tmpl_problems.specs.declared.entry.Level.TheVariants.{Error}
+use Rattle.tmpl_problems.specs.declared.finding.Level.TheVariants.{Error}
 use Rattle.tmpl_report.specs.declared.source.Question.{Question}
 use Rattle.tmpl_problems.specs.declared.source.Source.{Source}
 use Rattle.tmpl_report.specs.declared.source.Sources.{Sources}

@@ -1,5 +1,5 @@
 pub mod Asked
 pub mod Ended
-pub mod Entries
+pub mod Added
 pub mod Inferred
 pub mod Written

@@ -2,7 +2,7 @@
 ghost use Rattle.std.specs.Prelude.{◌≡◌, OnOk, false, true};
 ghost use Rattle.tmpl_problems.specs.Finding.{has_error};
 ghost use Rattle.tmpl_report.specs.Rendered.{IsHeldTo, IsInside, Mentions};
-ghost use Rattle.tmpl_report.specs.computed.Entries.{AddsUnfit};
+ghost use Rattle.tmpl_report.specs.computed.Added.{AddsUnfit};
 
 use crate::Result;
 use serde_json::Value;
@@ -12,7 +12,7 @@ use tmpl_json_schema::{
     SchemaFault, Violation, conforms_to, read_document, read_schema, violations_of,
 };
 use tmpl_problems::rule::DOES_NOT_CONFORM;
-use tmpl_problems::{Entry, Findings, Source, line_of, position_of};
+use tmpl_problems::{Finding, Findings, Source, line_of, position_of};
 
 /// The most places that are reported.
 const MOST: usize = 100;
@@ -82,7 +82,7 @@ fn add_violations<'a>(
     for violation in violations {
         let place = position_of(data.bytes.as_slice(), violation.path.as_slice());
         let text = violation_text(findings.alloc, schema, violation)?;
-        findings.add(Entry::error(data.name, place, DOES_NOT_CONFORM, text))?;
+        findings.add(Finding::error(data.name, place, DOES_NOT_CONFORM, text))?;
     }
     Ok(())
 }
@@ -97,7 +97,7 @@ fn add_unheld<'a>(findings: &mut Findings<'a>, data: &Source<'a>) -> Result<()>
     }
     let text = "does not conform: it is not seen that it does";
     let text = String::from_str(findings.alloc, text)?;
-    findings.add(Entry::error(data.name, (1, 1), DOES_NOT_CONFORM, text))
+    findings.add(Finding::error(data.name, (1, 1), DOES_NOT_CONFORM, text))
 }
 
 /// The message about a place at which the data does not conform to the schema.

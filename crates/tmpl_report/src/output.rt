@@ -1,6 +1,6 @@
 //! Whether what a template writes is of a format.
 ghost use Rattle.std.specs.Prelude.{OnOk};
-ghost use Rattle.tmpl_report.specs.computed.Entries.{AddsBroken, AddsOfOutput};
+ghost use Rattle.tmpl_report.specs.computed.Added.{AddsBroken, AddsOfOutput};
 
 mod message;
 mod render;
@@ -9,7 +9,7 @@ mod spread;
 mod strings;
 
 use crate::Result;
-use crate::output::message::broken_entry;
+use crate::output::message::broken_finding;
 use crate::output::render::Writer;
 use crate::output::schema::add_over_schema;
 use crate::output::spread::add_file;
@@ -98,8 +98,8 @@ fn add_over_data<'t, 'a>(
         return Ok(());
     };
     let found = writer.found(&tree, &broken, "writes no ", None)?;
-    let entry = broken_entry(task, found);
-    findings.add(entry)
+    let finding = broken_finding(task, found);
+    findings.add(finding)
 }
 
 /// The templates of the files; none where one is not accepted, or is missing.

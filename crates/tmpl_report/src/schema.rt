@@ -5,7 +5,7 @@ ghost use Rattle.tmpl_problems.specs.Errors.{errors_in};
 ghost use Rattle.tmpl_problems.specs.Finding.{Finding, has_error};
 ghost use Rattle.tmpl_report.specs.Errors.{MayBeOfSchema};
 ghost use Rattle.tmpl_report.specs.Safe.{IsSafeOver};
-ghost use Rattle.tmpl_problems.specs.computed.Entries.{HasMore};
+ghost use Rattle.tmpl_problems.specs.computed.Added.{HasMore};
 
 use crate::Result;
 use crate::check::{CheckFault, check_document};
@@ -18,7 +18,7 @@ use tmpl_funcs::Func;
 use tmpl_hints::Sentence;
 use tmpl_json_schema::{Refused, SchemaFault, part_without_values, read_document, warnings_of};
 use tmpl_problems::rule::{MAY_FAIL, Rule, SCHEMA_NOT_UNDERSTOOD, SCHEMA_WITHOUT_VALUES};
-use tmpl_problems::{Entry, Findings, Source, position_of};
+use tmpl_problems::{Finding, Findings, Source, position_of};
 use tmpl_schema::{Cause, Doubt, Refusal};
 use tmpl_syntax::{Place, Set};
 use tmpl_values::Bytes;
@@ -102,7 +102,7 @@ fn add_unseen<'a>(findings: &mut Findings<'a>, question: &Question<'a>) -> Resul
     }
     let text = String::from_str(findings.alloc, "may fail: it is not seen why")?;
     let file = question.first.unwrap_or("");
-    findings.add(Entry::error(file, (1, 1), MAY_FAIL, text))?;
+    findings.add(Finding::error(file, (1, 1), MAY_FAIL, text))?;
     Ok(())
 }
 
@@ -166,7 +166,7 @@ fn add_fault<'a>(
         CheckFault::Schema(SchemaFault::Refused(refused)) => {
             let place = position_of(schema.bytes.as_slice(), refused.path.as_slice());
             let text = refused_text(task.alloc, "schema not understood: ", &refused)?;
-            findings.add_once(Entry::error(schema.name, place, SCHEMA_NOT_UNDERSTOOD, text))
+            findings.add_once(Finding::error(schema.name, place, SCHEMA_NOT_UNDERSTOOD, text))
         }
         CheckFault::Template(Refusal::MayFail(doubts)) => {
             add_doubts(task, findings, schema, document, stops, doubts.as_slice())
@@ -200,29 +200,29 @@ fn add_doubts<'a>(
     for (index, doubt) in doubts.iter().enumerate() {
         let reason = reasons.get(index).and_then(Option::as_ref);
         let failure = failures.get(index).and_then(Option::as_ref);
-        let entry = doubt_entry(task, doubt, schema.name, reason, failure)?;
-        findings.add_once(entry)?;
+        let finding = doubt_finding(task, doubt, schema.name, reason, failure)?;
+        findings.add_once(finding)?;
     }
     Ok(())
 }
 
 /// What is found of an alarm, with its reason in the schema of this name and a value for which the template fails.
-fn doubt_entry<'a>(
+fn doubt_finding<'a>(
     task: &Task<'_, 'a>,
     doubt: &Doubt,
     schema: &str,
     reason: Option<&Reason>,
     failure: Option<&Failure>,
-) -> Result<Entry<'a>> {
+) -> Result<Finding<'a>> {
     let tree = task.set.get(doubt.template.as_slice());
     let found = tree.and_then(|tree| task.sources.place(tree.file.as_slice(), doubt.start));
     let (file, place) = found.unwrap_or((task.first, Place::first()));
     let text = text_of(task.alloc, &doubt.cause, schema, reason)?;
-    let mut entry = Entry::error(file, (doubt.line.max(1), place.column), MAY_FAIL, text);
+    let mut finding = Finding::error(file, (doubt.line.max(1), place.column), MAY_FAIL, text);
     if let Some(failure) = failure {
-        entry.note = Some(failure_text(task.alloc, failure, task.question.mode.is_some())?);
+        finding.note = Some(failure_text(task.alloc, failure, task.question.mode.is_some())?);
     }
-    Ok(entry)
+    Ok(finding)
 }
 
 /// The message about a value for which a template fails, by the mode that was asked for or by each.

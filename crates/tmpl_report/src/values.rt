@@ -11,7 +11,7 @@ ghost use Rattle.tmpl_problems.specs.Finding.{Finding, has_error};
 ghost use Rattle.tmpl_report.specs.Rendered.{AreOfValues, IsHeld, IsOfFault, IsRendered, IsRenderedOver, is_cut, run_rules};
 ghost use Rattle.tmpl_report.specs.Safe.{asked_name};
 ghost use Rattle.tmpl_report.specs.computed.Ended.{IsEnd};
-ghost use Rattle.tmpl_report.specs.computed.Entries.{AddsFault, AddsFaults};
+ghost use Rattle.tmpl_report.specs.computed.Added.{AddsFault, AddsFaults};
 
 use crate::Result;
 use crate::detail::{Detail, detail_of};
@@ -23,7 +23,7 @@ use serde_json::Value;
 use std::alloc::{AllocError, Global};
 use tmpl_engine::{Data, DataFault, MissingKey, Renderer, RunFault};
 use tmpl_problems::rule::{FAILS_OVER_DATA, NOT_RENDERED_WHOLE};
-use tmpl_problems::{Entry, Findings, Source, reason_text};
+use tmpl_problems::{Finding, Findings, Source, reason_text};
 use tmpl_syntax::{Place, Set};
 
 /// The warning where a run meets a limit.
@@ -155,8 +155,8 @@ fn add_fault<'a>(
     ensures added { OnOk result (AddsFault (fault_seen fault.now) findings.old findings.new) }
 {
     let detail = detail_over(task, data.bytes.as_slice(), fault)?;
-    let entry = fault_entry(task, fault, &detail)?;
-    findings.add(entry)
+    let finding = fault_finding(task, fault, &detail)?;
+    findings.add(finding)
 }
 
 /// What is known of a fault over these data.
@@ -172,7 +172,11 @@ fn detail_over(task: &Task<'_, '_>, data: &[u8], fault: &RunFault<'_>) -> Result
 }
 
 /// The fault of a run.
-fn fault_entry<'a>(task: &Task<'_, 'a>, fault: &RunFault<'_>, detail: &Detail) -> Result<Entry<'a>>
+fn fault_finding<'a>(
+    task: &Task<'_, 'a>,
+    fault: &RunFault<'_>,
+    detail: &Detail,
+) -> Result<Finding<'a>>
     ensures { IfOk result (IsOfFault (fault_seen fault.now)) }
 {
     let said = said_of(task.alloc, &fault.kind)?;
@@ -180,5 +184,5 @@ fn fault_entry<'a>(task: &Task<'_, 'a>, fault: &RunFault<'_>, detail: &Detail) -
     let (file, place) = found.unwrap_or((task.first, Place::first()));
     let text = reason_text(task.alloc, said.as_str(), detail.text.as_str())?;
     let place = (fault.line, place.column);
-    Ok(Entry::error(file, place, FAILS_OVER_DATA, text))
+    Ok(Finding::error(file, place, FAILS_OVER_DATA, text))
 }

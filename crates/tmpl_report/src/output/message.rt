@@ -8,7 +8,7 @@ use crate::source::Task;
 use std::alloc::Global;
 use tmpl_engine::Data;
 use tmpl_hints::Sentence;
-use tmpl_problems::Entry;
+use tmpl_problems::Finding;
 use tmpl_problems::rule::NOT_OF_FORMAT;
 use tmpl_syntax::Place;
 
@@ -76,13 +76,13 @@ fn shown_text(alloc: Global, broken: &Broken, data: Option<&str>) -> Result<Stri
 }
 
 /// What is reported of the action that wrote it; the first line and column, where it is not known.
-pub(super) fn broken_entry<'a>(task: &Task<'_, 'a>, broken: Found<'a>) -> Entry<'a>
+pub(super) fn broken_finding<'a>(task: &Task<'_, 'a>, broken: Found<'a>) -> Finding<'a>
     ensures { IsNotOfFormat result }
 {
     let Found { origin, text, note } = broken;
     let found = origin.and_then(|o| task.sources.place(o.file.as_bytes(), o.start));
     let (file, place) = found.unwrap_or((task.first, Place::first()));
-    let mut entry = Entry::error(file, (place.line, place.column), NOT_OF_FORMAT, text);
-    entry.note = Some(note);
-    entry
+    let mut finding = Finding::error(file, (place.line, place.column), NOT_OF_FORMAT, text);
+    finding.note = Some(note);
+    finding
 }

@@ -4,7 +4,7 @@ ghost use Rattle.std.specs.Prelude.{OnOk};
 ghost use Rattle.tmpl_report.specs.computed.Entries.{AddsBroken};
 
 use crate::Result;
-use crate::output::message::{Found, broken_entry};
+use crate::output::message::{Found, broken_finding};
 use crate::output::render::Writer;
 use crate::output::strings::{HOSTILE, count_strings, with_string};
 use crate::source::Task;
@@ -73,8 +73,8 @@ fn add_found<'a>(
     ensures { OnOk result (AddsBroken findings.old findings.new) }
 {
     for one in found.into_iter() {
-        let entry = broken_entry(task, one);
-        findings.add(entry)?;
+        let finding = broken_finding(task, one);
+        findings.add(finding)?;
     }
     Ok(())
 }

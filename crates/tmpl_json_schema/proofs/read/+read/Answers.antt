@@ -11,10 +11,10 @@ use Rattle.tmpl_values.specs.Value.{Value}
 use Rattle.tmpl_shape.specs.Shape.{Fields, HasShape, Shape, field}
 use Rattle.tmpl_shape.specs.View.{fields_of, shape_of}
 use Rattle.tmpl_shape.proofs.ViewLemmas.{anything_seen}
-use Rattle.tmpl_json_schema.specs.Document.{EachItemOf, SomeItem, SomeMember, is_since_2019, items_in}
-use Rattle.tmpl_json_schema.specs.computed.Reading.{alternatives_in, by_kinds, is_required, keep_kinds, least_in, listed_in, required_in, rest_of, leaves_in}
+use Rattle.tmpl_json_schema.specs.Document.{EachItemOf, FitsSome, SomeItem, SomeMember, is_since_2019, items_in}
+use Rattle.tmpl_json_schema.specs.computed.Reading.{by_kinds, is_required, keep_kinds, least_in, listed_in, required_in, rest_of, leaves_in}
 use Rattle.tmpl_json_schema.specs.computed.Fitting.{Adds, At, Conforms, Context, IsBeside, Keeps, NamesIn, WithEachOf, WithProperties, context_of}
-use Rattle.tmpl_json_schema.proofs.DocumentLemmas.{add-one, add-pattern, additional-has, chosen, content-has, fields-has, inside, items-next, keep-one, kinds-of, looked-up, put-none, put-one, read-object, referred}
+use Rattle.tmpl_json_schema.proofs.DocumentLemmas.{add-one, add-pattern, additional-has, content-has, fields-has, inside, items-next, keep-one, kinds-of, looked-up, put-none, put-one, read-object, referred}
 use Rattle.tmpl_json_schema.proofs.KindLemmas.{kept-has}
 use Rattle.tmpl_json_schema.proofs.read.+read.Goals as goal
 
@@ -112,13 +112,25 @@ property_fields-returns t c =
     let gs = fields_of c.loop-name.fields in
     c.loop-name.invariant gs (subst (λ es. WithProperties context required (members_view es) gs gs) (sym c.in-None.ensures.steps.0) (put-none context required gs))
 
-pub reference_shape-returns-then-has_applicators : goal.reference_shape-returns-then-has_applicators
-reference_shape-returns-then-has_applicators t c = λ unread sound n v h.
+pub reference_shape-returns-then-tells_more : goal.reference_shape-returns-then-tells_more
+reference_shape-returns-then-tells_more t c = λ unread sound n v h.
     let context = context_of c.args.reader.now in
     let beside : IsBeside context (view c.args.schema.now) = (unread, since-counts (is_some (get (codes "$ref") (view c.args.schema.now))) (is_since_2019 c.args.reader.now.draft) (sym c.if-is_since_2019.ensures)) in
     let pointer : c.as_slice.result.now ≡ c.args.pointer = search rules in
     let target = c.in_ok-target.ensures sound n v (at context c.as_slice.result.now c.args.pointer n v pointer h.0) in
     c.in_ok-meet_shapes.ensures (suc n) v target (c.in_ok-own.ensures beside sound n v (h.1 beside))
+
+pub reference_shape-returns-then-is_some : goal.reference_shape-returns-then-is_some
+reference_shape-returns-then-is_some t c = λ unread sound n v h.
+    let context = context_of c.args.reader.now in
+    let d = view c.args.schema.now in
+    let beside : IsBeside context d = (unread, since-counts (is_some (get (codes "$ref") d)) (is_since_2019 c.args.reader.now.draft) (sym c.if-is_since_2019-2.ensures)) in
+    let pointer : c.as_slice-then-is_some.result.now ≡ c.args.pointer = search rules in
+    let target = c.in_ok-target-2.ensures sound n v (at context c.as_slice-then-is_some.result.now c.args.pointer n v pointer h.0) in
+    let kinds = c.in_ok-kinds.kinds in
+    let is : shape_of c.in_ok-keep_kinds.field-0 ≡ keep_kinds kinds (shape_of c.in_ok-target-2.target) = search rules in
+    subst (λ (s : Shape). HasShape (NamesIn context (suc n)) s v) (sym is)
+    (kept-has (NamesIn context (suc n)) kinds (shape_of c.in_ok-target-2.target) v (kinds-of d kinds (Conforms context n) v c.in_ok-kinds.ensures (h.1 beside)) target)
 
 pub reference_shape-returns-then-is_met : goal.reference_shape-returns-then-is_met
 reference_shape-returns-then-is_met t c =
@@ -141,13 +153,18 @@ some_shape-loop-choice-preserved t c = λ s h.
     (add-one context (view c.choice-item.result) rest (shape_of l.shape) (shape_of c.in-Ok.one) s c.in-Ok.ensures
     (subst (λ (b : Shape). Adds context (λ C v. SomeItem (λ x. C x v) rest) b s) c.in_ok-shape.ensures h)))
 
-pub with_applicators-returns-in_ok-shape-in-Some : goal.with_applicators-returns-in_ok-shape-in-Some
-with_applicators-returns-in_ok-shape-in-Some t c =
+pub with_alternatives-returns-in-Some : goal.with_alternatives-returns-in-Some
+with_alternatives-returns-in-Some t c =
     let d = view c.args.schema.now in
     let choices = view c.in-Some.choices.now in
-    let is : alternatives_in d ≡ Some choices = search rules in
+    let is : get c.args.keyword.now d ≡ Some choices = search rules in
+    IfOk-weaker c.with_choices.result _ _
+    (λ s keeps sound n v x h. keeps sound n v x (subst (λ o. IfSome o (FitsSome (Conforms (context_of c.args.reader.now) n) v)) is h)) c.with_choices.ensures
+
+pub with_applicators-returns : goal.with_applicators-returns
+with_applicators-returns t c =
     IfOk-weaker c.with_all_of.result _ _
-    (λ s keeps sound n v x h. keeps sound n v (c.in_ok-shape-in-Some.ensures sound n v x (chosen d choices (Conforms (context_of c.args.reader.now) n) v is h)) h) c.with_all_of.ensures
+    (λ s keeps sound n v x h. keeps sound n v (c.in_ok-shape-2.ensures sound n v (c.in_ok-shape.ensures sound n v x h.9) h.10) h) c.with_all_of.ensures
 
 pub with_each_part-loop-part-preserved : goal.with_each_part-loop-part-preserved
 with_each_part-loop-part-preserved t c = λ s h.

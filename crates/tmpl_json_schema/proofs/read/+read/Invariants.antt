@@ -63,8 +63,11 @@ decreases-with_choices l = 20 * l.steps + 5
 abbrev pub decreases-with_all_of : goal.decreases-with_all_of
 decreases-with_all_of l = 20 * l.steps + 5
 
+abbrev pub decreases-with_alternatives : goal.decreases-with_alternatives
+decreases-with_alternatives l = 20 * l.steps + 6
+
 abbrev pub decreases-with_applicators : goal.decreases-with_applicators
-decreases-with_applicators l = 20 * l.steps + 6
+decreases-with_applicators l = 20 * l.steps + 7
 
 abbrev pub decreases-property_fields : goal.decreases-property_fields
 decreases-property_fields l = 20 * l.steps + 2

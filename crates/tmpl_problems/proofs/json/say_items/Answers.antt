@@ -11,5 +11,5 @@ pub loop-index-preserved : goal.loop-index-preserved
 loop-index-preserved c =
     let mark = subst (λ (t : List ℕ). Adds c.loop-index.said c.say.result t) c.line_before.ensures c.say.ensures in
     subst (λ (t : List ℕ). Adds c.args.said c.in_ok-said.said t)
-    (lines_more (λ (f : Finding). compact_text (item_of f)) c.args.entries.now c.loop-index.index c.index-entries-index.result c.loop-index-test.true c.index-entries-index.is)
+    (lines_more (λ (f : Finding). compact_text (item_of f)) c.args.findings.now c.loop-index.index c.index-findings-index.result c.loop-index-test.true c.index-findings-index.is)
     (adds_then _ _ _ _ _ c.loop-index.invariant (adds_then _ _ _ _ _ mark c.in_ok-said.ensures))

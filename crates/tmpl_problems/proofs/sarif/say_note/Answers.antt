@@ -10,8 +10,8 @@ use Rattle.tmpl_problems.proofs.sarif.say_note.Goals as goal
 
 pub returns-in-Some : goal.returns-in-Some
 returns-in-Some c =
-    let related = λ (t : List ℕ). compact_text (locations_of c.args.entry.now ((codes "message", message_of t) ∷ [])) in
-    let same = sym (ap (λ (x : Finding). x.note) c.entry.view_is) ∙ ap (option_map string_bytes) c.in-Some.is in
+    let related = λ (t : List ℕ). compact_text (locations_of c.args.finding.now ((codes "message", message_of t) ∷ [])) in
+    let same = sym (ap (λ (x : Finding). x.note) c.finding.view_is) ∙ ap (option_map string_bytes) c.in-Some.is in
     IfOk-weaker c.say_related.result _ _
     (λ s a. subst (λ (o : Option (List ℕ)). Adds c.args.said s (option_map_or (λ t. codes ",\"relatedLocations\":" ++ related t) o [])) (sym same)
     (adds_then _ _ _ _ _ c.say.ensures (subst (λ (t : List ℕ). Adds c.say.result s (related t)) c.as_str.ensures.value a)))

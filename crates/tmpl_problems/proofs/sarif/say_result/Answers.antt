@@ -11,13 +11,13 @@ use Rattle.tmpl_problems.proofs.sarif.say_result.Goals as goal
 
 pub returns : goal.returns
 returns c =
-    let f = c.args.entry.now in
-    let rule = subst (λ (x : Finding). Adds c.say.result c.in_ok-say_quoted.field-0 (compact_text (string x.rule))) c.entry.view_is
+    let f = c.args.finding.now in
+    let rule = subst (λ (x : Finding). Adds c.say.result c.in_ok-say_quoted.field-0 (compact_text (string x.rule))) c.finding.view_is
     c.in_ok-say_quoted.ensures in
-    let word = subst (λ (t : List ℕ). Adds c.say-2.result c.say-3.result t) (c.word.ensures ∙ ap (λ (x : Finding). word_of x.level) c.entry.view_is)
+    let word = subst (λ (t : List ℕ). Adds c.say-2.result c.say-3.result t) (c.word.ensures ∙ ap (λ (x : Finding). word_of x.level) c.finding.view_is)
     c.say-3.ensures in
     let message = subst (λ (t : List ℕ). Adds c.say-said.result c.in_ok-say_message.field-0 (compact_text (message_of t)))
-    (c.as_str.ensures.value ∙ ap (λ (x : Finding). x.text) c.entry.view_is) c.in_ok-say_message.ensures in
+    (c.as_str.ensures.value ∙ ap (λ (x : Finding). x.text) c.finding.view_is) c.in_ok-say_message.ensures in
     let more = adds_then _ _ _ _ _ message (adds_then _ _ _ _ _ c.say-said-2.ensures
     (adds_then _ _ _ _ _ c.in_ok-said.ensures (adds_then _ _ _ _ _ c.in_ok-say_note.ensures c.say-4.ensures))) in
     let level = adds_then _ _ _ _ _ c.say-2.ensures (adds_then _ _ _ _ _ word (adds_then _ _ _ _ _ c.say-said.ensures more)) in

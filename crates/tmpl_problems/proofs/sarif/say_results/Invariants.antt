@@ -6,4 +6,4 @@ use Rattle.tmpl_problems.specs.Sarif.{result_of}
 use Rattle.tmpl_problems.proofs.sarif.say_results.Given as goal
 
 abbrev pub invariant-loop-index : goal.invariant-loop-index
-invariant-loop-index l = Adds l.initial.said l.said (lines_between (map (λ f. compact_text (result_of f)) (take l.index l.entries)))
+invariant-loop-index l = Adds l.initial.said l.said (lines_between (map (λ f. compact_text (result_of f)) (take l.index l.findings)))

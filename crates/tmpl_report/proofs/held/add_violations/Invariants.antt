@@ -1,4 +1,4 @@
-use Rattle.tmpl_report.specs.computed.Entries.{AddsUnfit}
+use Rattle.tmpl_report.specs.computed.Added.{AddsUnfit}
 use Rattle.tmpl_report.proofs.held.add_violations.Given as goal
 
 abbrev pub invariant-loop-violation : goal.invariant-loop-violation

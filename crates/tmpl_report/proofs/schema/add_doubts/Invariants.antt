@@ -1,4 +1,4 @@
-use Rattle.tmpl_problems.specs.computed.Entries.{HasMore}
+use Rattle.tmpl_problems.specs.computed.Added.{HasMore}
 use Rattle.tmpl_report.proofs.schema.add_doubts.Given as goal
 
 abbrev pub invariant-loop-index : goal.invariant-loop-index

@@ -5,4 +5,4 @@ use Rattle.tmpl_report.proofs.values.add_fault.Goals as goal
 
 pub returns-clause-added : goal.returns-clause-added
 returns-clause-added c =
-    on_ok_weaker c.add.result (λ e. fault-added (fault_seen c.args.fault.now) c.args.findings.now c.add.new.self _ c.in_ok-entry.ensures e) c.add.ensures
+    on_ok_weaker c.add.result (λ e. fault-added (fault_seen c.args.fault.now) c.args.findings.now c.add.new.self _ c.in_ok-finding.ensures e) c.add.ensures

@@ -6,4 +6,4 @@ loop-one-init c = nothing-broken c.args.findings.now
 
 pub loop-one-preserved : goal.loop-one-preserved
 loop-one-preserved c =
-    broken-more c.args.findings.now c.loop-one.findings c.add.new.self c.broken_entry-entry.result c.loop-one.invariant c.broken_entry-entry.ensures c.in_ok-add.ensures
+    broken-more c.args.findings.now c.loop-one.findings c.add.new.self c.broken_finding-finding.result c.loop-one.invariant c.broken_finding-finding.ensures c.in_ok-add.ensures

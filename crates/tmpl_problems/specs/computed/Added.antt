@@ -4,7 +4,7 @@ use Rattle.std.specs.Str.{bytes_eq}
 use Rattle.tmpl_problems.specs.Errors.{AreOfReason, errors_in}
 use Rattle.tmpl_problems.specs.Finding.{Finding}
 use Rattle.tmpl_problems.specs.declared.data_check.DataReason.{DataReason}
-use Rattle.tmpl_problems.specs.declared.entry.Level.TheVariants.{Warning}
+use Rattle.tmpl_problems.specs.declared.finding.Level.TheVariants.{Warning}
 
 -- they say the same of the same place
 abbrev pub is_same : Finding → Finding → Bool

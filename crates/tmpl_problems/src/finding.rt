@@ -2,7 +2,7 @@
 ghost use Rattle.std.specs.Prelude.{◌≡◌, string_bytes};
 ghost use Rattle.tmpl_problems.specs.Errors.{error_at};
 ghost use Rattle.tmpl_problems.specs.Level.{is_error, word_of};
-ghost use Rattle.tmpl_problems.specs.computed.Entries.{is_same};
+ghost use Rattle.tmpl_problems.specs.computed.Added.{is_same};
 
 use crate::rule::Rule;
 use std::marker::Model;
@@ -28,18 +28,22 @@ impl Level {
 
 /// Something that is found at a place of a file. Contracts see its texts.
 #[derive(Drop)]
-pub struct Entry<'a> {
+pub struct Finding<'a> {
+    /// The path of the file, as it was given.
     pub file: &'a str,
     pub level: Level,
+    /// Its line, from 1.
     pub line: u64,
+    /// Its column, from 1, by characters.
     pub column: u64,
+    /// What it is against.
     pub rule: Rule,
     pub text: String,
     /// A note on it.
     pub note: Option<String>,
 }
 
-impl<'a> Model for Entry<'a> {
+impl<'a> Model for Finding<'a> {
     ghost use Rattle.std.specs.Prelude.{option_map, string_bytes};
     ghost use Rattle.tmpl_problems.specs.Finding.{Finding};
 
@@ -56,13 +60,13 @@ impl<'a> Model for Entry<'a> {
     } };
 }
 
-impl<'a> Entry<'a> {
+impl<'a> Finding<'a> {
     /// An error at a line and a column, without a note.
-    pub fn error(file: &'a str, place: (u64, u64), rule: Rule, text: String) -> Entry<'a>
+    pub fn error(file: &'a str, place: (u64, u64), rule: Rule, text: String) -> Finding<'a>
         ensures { result ≡ error_at file.now place rule.id.now (string_bytes text) }
     {
         let (line, column) = place;
-        Entry {
+        Finding {
             file,
             level: Level::Error,
             line,
@@ -81,7 +85,7 @@ impl<'a> Entry<'a> {
     }
 
     /// Whether the other says the same of the same place.
-    pub(crate) fn is_same(&self, other: &Entry<'_>) -> bool
+    pub(crate) fn is_same(&self, other: &Finding<'_>) -> bool
         ensures { result ≡ is_same self.now other.now }
     {
         self.file == other.file
