@@ -1,7 +1,7 @@
 //! The output over data of a schema: values for which it is not of the format are searched for. That none is found proves
 //! nothing.
 ghost use Rattle.std.specs.Prelude.{OnOk};
-ghost use Rattle.tmpl_report.specs.computed.Entries.{AddsBroken};
+ghost use Rattle.tmpl_report.specs.computed.Added.{AddsBroken};
 
 use crate::Result;
 use crate::output::message::{Found, broken_finding};
