@@ -137,7 +137,8 @@ def drawn_schema(draw, depth):
     if kind < 0.6:
         return drawn_union(draw, depth)
     if kind < 0.66:
-        out = {draw.choice(["anyOf", "oneOf"]): [drawn_schema(draw, depth - 1) for _ in range(draw.randrange(1, 4))]}
+        keywords = draw.choice([["anyOf"], ["oneOf"], ["anyOf"], ["oneOf"], ["anyOf", "oneOf"]])
+        out = {keyword: [drawn_schema(draw, depth - 1) for _ in range(draw.randrange(1, 4))] for keyword in keywords}
         return {**out, "type": ["object", "string"]} if draw.random() < 0.3 else out
     return drawn_object(draw, depth)
 
@@ -169,7 +170,9 @@ def drawn_tuple(draw, depth):
 def drawn_parts(draw, depth):
     """Schemas together, or one beside a reference."""
     if draw.random() < 0.3:
-        return {**drawn_object(draw, depth - 1), "$ref": "#/$defs/" + draw.choice(["n", "m~1o", "p%25q"])}
+        beside = draw.choice([drawn_object(draw, depth - 1), {"type": draw.choice(["object", "string", ["array", "null", "string"]])}, {"const": draw.choice([1, "x", None])},
+                              {"enum": draw.sample([False, 0, 1, "", "x", None], 3)}, {"type": "array", "minItems": draw.randrange(3)}])
+        return {**beside, "$ref": "#/$defs/" + draw.choice(["n", "m~1o", "p%25q"])}
     parts = [drawn_part_of_all(draw, depth - 1) for _ in range(draw.randrange(1, 4))]
     return {**(drawn_object(draw, depth - 1) if draw.random() < 0.3 else {}), "allOf": parts}
 
