@@ -82,14 +82,12 @@ CRATE = re.compile(r"rt: (\w+)(?: proved| is kept)\b")  # a line of `rt ci` that
 SLOWEST = 5
 ROOM = 6_000_000_000  # bytes that are free when a check begins beside the proofs
 YIELDING = ("nice", "-n", "19")
-WAITING = ("nice", "-n", "5")  # a third of the time of one that does not wait
-# what a run of `rt ci` proves beside the one that proves all, once each crate below has been proved by a run of its own: such a run has two
-# processors for its crate, and reckons with the memory that is free when it begins. One by itself reckons a check at twice what it takes, and
-# gives a crate one processor where others wait, so processors are idle
-LAST = ("tmpl_report", "tmpl_c")
-LEAD = 30  # seconds after which it has begun with the first of these
-SHORT = 0.75  # of the longest chain
-ROOM_FOR_A_CRATE = 6_000_000_000  # bytes, more than a check of a crate by two processors takes
+# what runs of `rt ci` prove beside the one that proves all, once each crate below the first has been proved by a run of its own: such a run has
+# two processors for its crate, and reckons with the memory that is free when it begins. One by itself reckons a check at twice what it takes,
+# and gives a crate one processor where others wait, so processors are idle
+LAST = (("tmpl_report", "tmpl_c"), ("tmpl_check",))
+LEAD = 30  # seconds after which the first of these has begun with its first crate
+ROOM_FOR_A_CRATE = 5_500_000_000  # bytes, more than a check of a crate takes
 
 
 def command(name, more=None):
@@ -158,7 +156,7 @@ class Beside:
             self.futures[crate] = self.pool.submit(self.run, crate, self.try_bodies)
         if crate == "tmpl":
             self.futures.update({it: self.pool.submit(self.run, it, self.its.test_beside) for it in self.tests})
-        if crate == LAST[0] and self.reads:
+        if crate == LAST[0][0] and self.reads:
             self.futures["edits"] = self.pool.submit(self.run, "edits", self.read_edits)
 
     def begin(self, name):
@@ -215,21 +213,23 @@ def prove(progress, beside):
         if crate := see(line):
             beside.add(crate)
 
-    # one less than there are processors, since a check does some of its work by one
-    slots = max(1, min(harness.processes() - 1, harness.free_memory() // ROOM_FOR_A_CRATE))
+    slots = max(1, min(harness.processes(), harness.free_memory() // ROOM_FOR_A_CRATE))
     # the toolchain takes no names of crates where CI is set
     is_apart = slots > 1 and "RT_JOBS" not in os.environ and os.environ.get("CI") != "true"
     with ThreadPoolExecutor(slots) as pool:
-        def crates(names, yields=False):
+        def crates(names, has_two=True):
             # two processors for a crate end it sooner, and take a quarter more of their time
-            how = {**os.environ, "RT_JOBS": "1"} if yields else os.environ
-            return pool.submit(lambda: run(PROOFS, how, see, names, WAITING if yields else ())[2])
+            how = os.environ if has_two else {**os.environ, "RT_JOBS": "1"}
+            return pool.submit(lambda: run(PROOFS, how, see, " ".join(names))[2])
 
-        used = prove_below(LAST[0], slots, crates, progress.recorded["crates"]) if is_apart else 0
-        last = crates(" ".join(LAST)) if is_apart else None
-        time.sleep(LEAD if is_apart else 0)
+        used, last = 0, []
+        if is_apart:
+            used = prove_below(LAST[0][0], slots, crates, progress.recorded["crates"])
+            for names in LAST:
+                last.append(crates(names))
+                time.sleep(LEAD)
         passed, failed, seconds = run(PROOFS, os.environ, see_last)
-        seconds += used + (last.result() if last else 0)
+        seconds += used + sum(it.result() for it in last)
     progress.crates.clear()
     if not failed:
         proved.mark(begun)
@@ -238,8 +238,8 @@ def prove(progress, beside):
 
 def prove_below(crate, slots, begin, recorded):
     """Has each crate below this one proved by a run of its own as soon as those are that it uses, first the one with the longest chain of others
-    behind it, by the recorded seconds, to which those with a much shorter one yield; the seconds of processors that this took. What is proved is
-    kept for the run that proves all, which proves once more what failed."""
+    behind it, by the recorded seconds; by two processors each where there are fewer crates than these to prove at the time, else by one. Gives
+    the seconds of processors that this took. What is proved is kept for the run that proves all, which proves once more what failed."""
     uses, crates = programs.uses(), edits.crates_below(crate)
 
     def behind(name):
@@ -248,10 +248,10 @@ def prove_below(crate, slots, begin, recorded):
     left, running, used = sorted(crates, key=behind, reverse=True), {}, 0
     while left or running:
         ready = [it for it in left if not any(other in left or other in running.values() for other in uses[it])]
-        longest = max(map(behind, [*ready, *running.values()]))
+        is_any_idle = len(ready) + len(running) < harness.processes()
         for name in ready[: slots - len(running)]:
             left.remove(name)
-            running[begin(name, behind(name) < SHORT * longest)] = name
+            running[begin([name], is_any_idle)] = name
         for it in wait(running, return_when=FIRST_COMPLETED).done:
             running.pop(it)
             used += it.result()

@@ -171,7 +171,7 @@ def drawn_parts(draw, depth):
     """Schemas together, or one beside a reference."""
     if draw.random() < 0.3:
         beside = draw.choice([drawn_object(draw, depth - 1), {"type": draw.choice(["object", "string", ["array", "null", "string"]])}, {"const": draw.choice([1, "x", None])},
-                              {"enum": draw.sample([False, 0, 1, "", "x", None], 3)}, {"type": "array", "minItems": draw.randrange(3)}])
+                              {"enum": draw.sample([False, 0, 1, "", "x", None], 3)}, {"type": "array", "minItems": draw.randrange(3)}, {"minItems": draw.randrange(3)}])
         return {**beside, "$ref": "#/$defs/" + draw.choice(["n", "m~1o", "p%25q"])}
     parts = [drawn_part_of_all(draw, depth - 1) for _ in range(draw.randrange(1, 4))]
     return {**(drawn_object(draw, depth - 1) if draw.random() < 0.3 else {}), "allOf": parts}
@@ -180,7 +180,7 @@ def drawn_parts(draw, depth):
 def drawn_part_of_all(draw, depth):
     """A schema of those that values have to conform to together."""
     return draw.choice([drawn_schema(draw, depth), drawn_object(draw, depth), {"$ref": "#/$defs/" + draw.choice(["n", "m~1o", "p%25q"])},
-                        {"required": [draw.choice(FIELDS)]}, {"properties": {draw.choice(FIELDS): drawn_schema(draw, depth)}}])
+                        {"required": [draw.choice(FIELDS)]}, {"minItems": draw.randrange(3)}, {"properties": {draw.choice(FIELDS): drawn_schema(draw, depth)}}])
 
 
 def narrowing(draw):

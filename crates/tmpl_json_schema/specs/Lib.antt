@@ -1,4 +1,5 @@
 pub mod Document
 pub mod Inferred
 pub mod Keywords
+pub mod Permission
 pub mod computed

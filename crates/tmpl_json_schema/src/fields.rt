@@ -28,7 +28,7 @@ fn is_key(key: &[u8], names: &[Value]) -> bool
 }
 
 /// How many items a list has at least, where that is said.
-pub fn least_items(schema: &Value) -> Option<u64> {
+pub(crate) fn least_items(schema: &Value) -> Option<u64> {
     schema.get("minItems").and_then(Value::as_u64)
 }
 
@@ -57,7 +57,7 @@ pub(crate) fn is_required(key: &[u8], required: Option<&Value>) -> bool
 }
 
 /// Whether a schema requires this key.
-pub fn requires_key(schema: &Value, key: &str) -> bool {
+pub(crate) fn requires_key(schema: &Value, key: &str) -> bool {
     is_required(key.as_bytes(), schema.get("required"))
 }
 
@@ -147,10 +147,11 @@ pub(crate) fn required_in(
 }
 
 /// Whether there are keywords of fields and items.
-pub fn has_content(schema: &Value) -> bool
+pub(crate) fn has_content(schema: &Value) -> bool
     ensures { result ≡ has_content (view schema.now) }
 {
     schema.get("properties").is_some()
         || (schema.get("required").is_some()
-            || (schema.get("additionalProperties").is_some() || schema.get("items").is_some()))
+            || (schema.get("additionalProperties").is_some()
+                || (schema.get("items").is_some() || schema.get("minItems").is_some())))
 }

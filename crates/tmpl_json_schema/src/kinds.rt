@@ -79,7 +79,7 @@ fn both_kinds(one: Kinds, other: Kinds) -> Kinds
 }
 
 /// Whether they are all kinds.
-pub fn is_every_kind(kinds: Kinds) -> bool
+pub(crate) fn is_every_kind(kinds: Kinds) -> bool
     ensures { result ≡ is_every_kind kinds }
 {
     kinds.null && (kinds.truth && (kinds.number && (kinds.text && (kinds.list && kinds.map))))
@@ -279,7 +279,7 @@ pub(crate) fn kinds_in(alloc: Global, schema: &Value) -> Result<Kinds, SchemaFau
 /// # Errors
 ///
 /// `Refused` where what stands under one of these is not what it wants, and `OutOfMemory` where memory runs out.
-pub fn kinds_of(alloc: Global, schema: &Value) -> Result<Kinds, SchemaFault>
+pub(crate) fn kinds_of(alloc: Global, schema: &Value) -> Result<Kinds, SchemaFault>
     ensures { IfOk result (λ ks. kinds_of (view schema.now) ≡ Some ks) }
 {
     match schema {
@@ -290,7 +290,7 @@ pub fn kinds_of(alloc: Global, schema: &Value) -> Result<Kinds, SchemaFault>
 }
 
 /// Whether there is a kind among these but that of maps.
-pub fn lets_no_map(kinds: Kinds) -> bool {
+pub(crate) fn lets_no_map(kinds: Kinds) -> bool {
     !is_no_kind(Kinds {
         map: false,
         ..kinds

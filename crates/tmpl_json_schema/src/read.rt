@@ -98,7 +98,7 @@ pub(crate) fn alternatives_in(schema: &Value) -> Option<&Value>
 }
 
 /// The alternatives, where they are not beside keywords of fields and items.
-pub fn choices_in(schema: &Value) -> Option<&Value>
+pub(crate) fn choices_in(schema: &Value) -> Option<&Value>
     ensures { option_map (λ v. view v.now) result ≡ choices_in (view schema.now) }
 {
     if has_content(schema) {
@@ -110,6 +110,14 @@ pub fn choices_in(schema: &Value) -> Option<&Value>
 /// Whether schemas stand in it that a value itself conforms to: alternatives, or parts of `allOf`.
 pub(crate) fn has_applicators(schema: &Value) -> bool {
     alternatives_in(schema).is_some() || schema.get("allOf").is_some()
+}
+
+/// Whether these stand under more than one keyword.
+fn has_several_applicators(schema: &Value) -> bool {
+    let has_any_of = schema.get("anyOf").is_some();
+    let has_one_of = schema.get("oneOf").is_some();
+    let has_all_of = schema.get("allOf").is_some();
+    (has_any_of && has_one_of) || (has_all_of && (has_any_of || has_one_of))
 }
 
 /// Whether its own shape tells more than its kinds.
@@ -288,9 +296,10 @@ fn own_shape(reader: &Reader<'_>, steps: usize, schema: &Value) -> Read
 fn with_applicators(reader: &Reader<'_>, steps: usize, schema: &Value, shape: Shape) -> Read
     ensures { IfOk result (λ s. Keeps (context_of reader.now) (Plain (view schema.now)) (shape_of shape) (shape_of s)) }
 {
-    let shape = with_alternatives(reader, steps, schema, "anyOf", shape)?;
-    let shape = with_alternatives(reader, steps, schema, "oneOf", shape)?;
-    with_all_of(reader, steps, schema, shape)
+    let is_met = has_several_applicators(schema);
+    let shape = with_alternatives(reader, steps, schema, "anyOf", is_met, shape)?;
+    let shape = with_alternatives(reader, steps, schema, "oneOf", is_met, shape)?;
+    with_all_of(reader, steps, schema, is_met, shape)
 }
 
 /// The shape, met with that of the alternatives under a keyword, if it is there.
@@ -300,24 +309,31 @@ fn with_alternatives(
     steps: usize,
     schema: &Value,
     keyword: &'static str,
+    is_met: bool,
     shape: Shape,
 ) -> Read
     ensures { IfOk result (λ s. Keeps (context_of reader.now) (λ C v. IfSome (get keyword.now (view schema.now)) (FitsSome C v))
         (shape_of shape) (shape_of s)) }
 {
     match schema.get(keyword) {
-        Some(choices) => with_choices(reader, steps, keyword, shape, choices),
+        Some(choices) => with_choices(reader, steps, keyword, is_met, shape, choices),
         None => Ok(shape),
     }
 }
 
 /// The shape, met with that of each part of `allOf`.
 #[cycle(read)]
-fn with_all_of(reader: &Reader<'_>, steps: usize, schema: &Value, shape: Shape) -> Read
+fn with_all_of(
+    reader: &Reader<'_>,
+    steps: usize,
+    schema: &Value,
+    is_met: bool,
+    shape: Shape,
+) -> Read
     ensures { IfOk result (λ s. Keeps (context_of reader.now) (Plain (view schema.now)) (shape_of shape) (shape_of s)) }
 {
     match schema.get("allOf") {
-        Some(parts) => with_parts(reader, steps, shape, parts),
+        Some(parts) => with_parts(reader, steps, is_met, shape, parts),
         None => Ok(shape),
     }
 }
@@ -329,22 +345,23 @@ fn with_choices(
     reader: &Reader<'_>,
     steps: usize,
     keyword: &'static str,
+    is_met: bool,
     shape: Shape,
     choices: &Value,
 ) -> Read
     ensures { IfOk result (λ s. Keeps (context_of reader.now) (λ C v. FitsSome C v (view choices.now)) (shape_of shape) (shape_of s)) }
 {
-    let is_met = !is_anything(&shape);
-    if is_met
+    let is_narrowed = !is_anything(&shape);
+    if is_narrowed
         && choices
             .as_array()
             .is_some_and(|choices| choices.len() > MOST_MET)
     {
         return Ok(shape);
     }
-    match choice_shape(reader, steps, is_met, choices) {
+    match choice_shape(reader, steps, is_met || is_narrowed, choices) {
         Ok(choice) => {
-            if is_met && count_alternatives(&choice) > MOST_MET {
+            if is_narrowed && count_alternatives(&choice) > MOST_MET {
                 return Ok(shape);
             }
             Ok(meet_shapes(reader, shape, choice)?)
@@ -354,7 +371,7 @@ fn with_choices(
 }
 
 /// The keyword under which the alternatives stand that give the shape.
-pub fn chosen_by(schema: &Value) -> &'static str {
+pub(crate) fn chosen_by(schema: &Value) -> &'static str {
     if schema.get("anyOf").is_some() {
         "anyOf"
     } else {
@@ -364,12 +381,12 @@ pub fn chosen_by(schema: &Value) -> &'static str {
 
 /// The shape, met with that of each part of `allOf`. A part alone may stay a reference.
 #[cycle(read)]
-fn with_parts(reader: &Reader<'_>, steps: usize, shape: Shape, parts: &Value) -> Read
+fn with_parts(reader: &Reader<'_>, steps: usize, is_met: bool, shape: Shape, parts: &Value) -> Read
     ensures { IfOk result (λ s. Keeps (context_of reader.now) (λ C v. FitsEach C v (view parts.now)) (shape_of shape) (shape_of s)) }
 {
     match parts {
         Value::Array(parts) => {
-            let is_met = parts.len() > 1 || !is_anything(&shape);
+            let is_met = is_met || parts.len() > 1 || !is_anything(&shape);
             match with_each_part(reader, steps, is_met, shape, parts.as_slice()) {
                 Ok(shape) => Ok(shape),
                 Err(fault) => Err(under(reader.alloc, fault, "allOf")),
@@ -455,7 +472,7 @@ fn content_shape(reader: &Reader<'_>, steps: usize, schema: &Value, kinds: Kinds
 }
 
 /// The schema of each item, if there is one.
-pub fn items_in(schema: &Value) -> Option<&Value>
+pub(crate) fn items_in(schema: &Value) -> Option<&Value>
     ensures { option_map (λ v. view v.now) result ≡ items_in (view schema.now) }
 {
     match schema.get("items") {

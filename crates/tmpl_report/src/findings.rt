@@ -1,16 +1,20 @@
 //! What is found.
 ghost use Rattle.std.specs.Prelude.{◌≡◌, List, ◌++◌, false, IfOk, OnOk};
+ghost use Rattle.std.specs.Option.{option_map};
+ghost use Rattle.serde_json.specs.View.{view};
 ghost use Rattle.tmpl_problems.specs.Errors.{AreOfData, errors_in};
 ghost use Rattle.tmpl_problems.specs.Finding.{Finding, has_error};
-ghost use Rattle.tmpl_report.specs.Errors.{AreErrors, AreOfSources};
+ghost use Rattle.tmpl_report.specs.Errors.{AreErrors};
 ghost use Rattle.tmpl_report.specs.Rendered.{IsValued};
 ghost use Rattle.tmpl_report.specs.Safe.{IsSafe};
+ghost use Rattle.tmpl_report.specs.computed.Added.{AreFound, schema_document};
 
 use crate::Result;
 use crate::output::add_output;
 use crate::schema::add_schema;
 use crate::source::{Question, Sources};
 use crate::values::add_values;
+use serde_json::Value;
 use std::alloc::{AllocError, Global};
 use tmpl_problems::Findings;
 use tmpl_syntax::{NameHash, Set};
@@ -41,29 +45,30 @@ pub fn findings_of<'a>(
     ensures matches_spec { IfOk result (λ found. AreErrors question.now sources.now (errors_in found)) }
     ensures values { IfOk result (λ found. has_error found ≡ false → IsValued question.now sources.now found) }
 {
-    let mut findings = findings_in(alloc, hash, question, sources)?;
-    add_output(hash, &mut findings, question, sources)?;
+    let document = sources.document(alloc)?;
+    let mut findings = findings_in(alloc, hash, question, sources, document.as_ref())?;
+    add_output(hash, &mut findings, question, sources, document.as_ref())?;
     Ok(findings)
 }
 
-/// The same, whatever the output is of.
+/// The same, whatever the output is of, where this is the document of the schema.
 fn findings_in<'a>(
     alloc: Global,
     hash: NameHash,
     question: &Question<'a>,
     sources: &Sources<'a>,
+    document: Option<&Value>,
 ) -> Result<Findings<'a>>
-    ensures safe { IfOk result (λ found. has_error found ≡ false → IsSafe question.now sources.now) }
-    ensures matches_spec { IfOk result (λ found. AreOfSources question.now sources.now (errors_in found)) }
-    ensures values { IfOk result (λ found. has_error found ≡ false → IsValued question.now sources.now found) }
+    requires { option_map (λ d. view d.now) document ≡ schema_document sources.now }
+    ensures { IfOk result (λ found. AreFound question.now sources.now found) }
 {
     let mut findings = Findings::new(alloc);
     let mut set = Set::with_hash(alloc, hash);
     let files = sources.templates.as_slice();
     findings.add_files(hash, question.first, question.name, files, &mut set)?;
-    add_schema(&mut findings, &set, question, sources)?;
+    add_schema(&mut findings, &set, question, sources, document)?;
     add_given(&mut findings, sources)?;
-    add_values(&mut findings, &set, question, sources)?;
+    add_values(&mut findings, &set, question, sources, document)?;
     Ok(findings)
 }
 

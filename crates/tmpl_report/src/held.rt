@@ -1,5 +1,8 @@
 //! Whether the data conforms to the schema, and where it does not.
 ghost use Rattle.std.specs.Prelude.{◌≡◌, OnOk, false, true};
+ghost use Rattle.std.specs.Option.{option_map};
+ghost use Rattle.serde_json.specs.View.{view};
+ghost use Rattle.tmpl_json_schema.specs.Document.{document_of};
 ghost use Rattle.tmpl_problems.specs.Finding.{has_error};
 ghost use Rattle.tmpl_report.specs.Rendered.{IsHeldTo, IsInside, Mentions};
 ghost use Rattle.tmpl_report.specs.computed.Added.{AddsUnfit};
@@ -8,26 +11,26 @@ use crate::Result;
 use serde_json::Value;
 use std::alloc::{AllocError, Global};
 use tmpl_hints::Sentence;
-use tmpl_json_schema::{
-    SchemaFault, Violation, conforms_to, read_document, read_schema, violations_of,
-};
+use tmpl_json_schema::{SchemaFault, Violation, conforms_to, read_schema, violations_of};
 use tmpl_problems::rule::DOES_NOT_CONFORM;
 use tmpl_problems::{Finding, Findings, Source, line_of, position_of};
 
 /// The most places that are reported.
 const MOST: usize = 100;
 
-/// Adds where the data does not conform to the schema, if both are read.
+/// Adds where the data does not conform to the schema, of which this is the document, if both are read.
 pub(crate) fn add_held<'a>(
     findings: &mut Findings<'a>,
     schema: &Source<'a>,
+    document: Option<&Value>,
     data: &Source<'a>,
 ) -> Result<()>
+    requires { option_map (λ d. view d.now) document ≡ document_of schema.now.bytes.items }
     ensures held { OnOk result (has_error findings.new ≡ false → IsHeldTo schema.now «data».now) }
     ensures told { OnOk result (AddsUnfit findings.old findings.new) }
 {
     let alloc = findings.alloc;
-    let Some(document) = read_document(alloc, schema.bytes.as_slice())? else {
+    let Some(document) = document else {
         return Ok(());
     };
     let value = match Value::from_slice(alloc, data.bytes.as_slice()) {
@@ -35,15 +38,15 @@ pub(crate) fn add_held<'a>(
         Err(error) if error.is_memory() => return Err(AllocError),
         Err(_) => return add_unheld(findings, data),
     };
-    match read_schema(alloc, &document) {
+    match read_schema(alloc, document) {
         Ok(_) => {}
         Err(SchemaFault::OutOfMemory) => return Err(AllocError),
         Err(SchemaFault::Refused(_)) => return add_unheld(findings, data),
     }
-    if conforms_to(alloc, &document, &value) {
+    if conforms_to(alloc, document, &value) {
         return Ok(());
     }
-    let found = violations_of(alloc, &document, &value, MOST)?;
+    let found = violations_of(alloc, document, &value, MOST)?;
     add_violations(findings, schema, data, found.as_slice())?;
     if has_text_rules(schema.bytes.as_slice()) {
         return Ok(());

@@ -20,7 +20,7 @@ pub use check::{CheckFault, check_document};
 pub use findings::findings_of;
 pub use infer::{Inferred, infer_from};
 pub use laws::always_fails;
-pub use reasons::{Reason, Why, reasons_of};
+pub use reasons::{Reason, reasons_of};
 pub use samples::{Failure, failure_refutes, failures_of};
 pub use source::{Question, Sources};
 

@@ -14,20 +14,21 @@ use crate::output::render::Writer;
 use crate::output::schema::add_over_schema;
 use crate::output::spread::add_file;
 use crate::source::{Question, Sources, Task};
+use serde_json::Value;
 use std::alloc::{AllocError, Global};
 use tmpl_engine::{Data, DataFault, Renderer};
 use tmpl_formats::Format;
-use tmpl_json_schema::read_document;
 use tmpl_problems::{Findings, Source};
 use tmpl_syntax::{NameHash, Set};
 
 /// Adds where the output ceases to be of the format that is asked for, if one is and nothing else is wrong: over the data
-/// that is given, or else over data of the schema that are found.
+/// that is given, or else over data of the document of the schema that are found.
 pub(crate) fn add_output<'a>(
     hash: NameHash,
     findings: &mut Findings<'a>,
     question: &Question<'a>,
     sources: &Sources<'a>,
+    document: Option<&Value>,
 ) -> Result<()>
     ensures { OnOk result (AddsOfOutput question.now findings.old findings.new) }
 {
@@ -38,7 +39,7 @@ pub(crate) fn add_output<'a>(
         return Ok(());
     }
     match question.first {
-        Some(first) => add_written(hash, findings, question, sources, word, first),
+        Some(first) => add_written(hash, findings, question, sources, document, word, first),
         None => Ok(()),
     }
 }
@@ -49,6 +50,7 @@ fn add_written<'a>(
     findings: &mut Findings<'a>,
     question: &Question<'a>,
     sources: &Sources<'a>,
+    document: Option<&Value>,
     word: &str,
     first: &'a str,
 ) -> Result<()>
@@ -68,12 +70,9 @@ fn add_written<'a>(
         sources,
         first,
     };
-    match (&sources.data, &sources.schema) {
+    match (&sources.data, document) {
         (Some(data), _) => add_over_data(&task, findings, data, &format),
-        (None, Some(schema)) => match read_document(alloc, schema.bytes.as_slice())? {
-            Some(document) => add_over_schema(&task, findings, &document, &format),
-            None => Ok(()),
-        },
+        (None, Some(document)) => add_over_schema(&task, findings, document, &format),
         (None, None) => Ok(()),
     }
 }

@@ -1,35 +1,41 @@
 //! Whether a template never fails over the data of a schema, and where it may.
 ghost use Rattle.std.specs.Prelude.{◌≡◌, ◌++◌, List, false, true, IfOk, OnOk, map};
+ghost use Rattle.std.specs.Option.{option_map};
+ghost use Rattle.serde_json.specs.View.{view};
 ghost use Rattle.tmpl_syntax.specs.View.{set_view};
 ghost use Rattle.tmpl_problems.specs.Errors.{errors_in};
 ghost use Rattle.tmpl_problems.specs.Finding.{Finding, has_error};
 ghost use Rattle.tmpl_report.specs.Errors.{MayBeOfSchema};
 ghost use Rattle.tmpl_report.specs.Safe.{IsSafeOver};
+ghost use Rattle.tmpl_report.specs.computed.Added.{schema_document};
 ghost use Rattle.tmpl_problems.specs.computed.Added.{HasMore};
 
 use crate::Result;
 use crate::check::{CheckFault, check_document};
-use crate::reasons::{Reason, Why, below, reasons_of};
+use crate::reasons::{Reason, reasons_of};
 use crate::samples::{Failure, failures_of};
 use crate::source::{Question, Sources, Task};
 use serde_json::Value;
 use std::alloc::{AllocError, Global};
 use tmpl_funcs::Func;
 use tmpl_hints::Sentence;
-use tmpl_json_schema::{Refused, SchemaFault, part_without_values, read_document, warnings_of};
+use tmpl_json_schema::{Refused, SchemaFault, Why, below, part_without_values, warnings_of};
 use tmpl_problems::rule::{MAY_FAIL, Rule, SCHEMA_NOT_UNDERSTOOD, SCHEMA_WITHOUT_VALUES};
 use tmpl_problems::{Finding, Findings, Source, position_of};
 use tmpl_schema::{Cause, Doubt, Refusal};
 use tmpl_syntax::{Place, Set};
 use tmpl_values::Bytes;
 
-/// Adds the findings about the template that is asked for over data of the schema, once the files are accepted.
+/// Adds the findings about the template that is asked for over data of the schema, of which this is the document, once the
+/// files are accepted.
 pub(crate) fn add_schema<'a>(
     findings: &mut Findings<'a>,
     set: &Set,
     question: &Question<'a>,
     sources: &Sources<'a>,
+    document: Option<&Value>,
 ) -> Result<()>
+    requires { option_map (λ d. view d.now) document ≡ schema_document sources.now }
     ensures safe { OnOk result (has_error findings.new ≡ false → sources.now.is_short ≡ false
         → IsSafeOver question.now sources.now (set_view set.now)) }
     ensures matches_spec { OnOk result ((errors : List Finding) × MayBeOfSchema sources.now.schema findings.old errors
@@ -41,7 +47,7 @@ pub(crate) fn add_schema<'a>(
     if findings.has_errors() {
         return Ok(());
     }
-    add_judged(findings, set, question, sources)?;
+    add_judged(findings, set, question, sources, document)?;
     Ok(())
 }
 
@@ -52,7 +58,9 @@ fn add_judged<'a>(
     set: &Set,
     question: &Question<'a>,
     sources: &Sources<'a>,
+    document: Option<&Value>,
 ) -> Result<()>
+    requires { option_map (λ d. view d.now) document ≡ schema_document sources.now }
     ensures safe { OnOk result (has_error findings.new ≡ false → sources.now.is_short ≡ false
         → IsSafeOver question.now sources.now (set_view set.now)) }
     ensures more { OnOk result (HasMore findings.old findings.new) }
@@ -76,14 +84,14 @@ fn add_judged<'a>(
     };
     let stops = names_of(alloc, question.stops.as_slice())?;
     let stops = stops.as_slice();
-    let Some(document) = read_document(alloc, schema.bytes.as_slice())? else {
+    let Some(document) = document else {
         add_unread(findings, question, schema)?;
         return Ok(());
     };
-    match check_document(alloc, set, task.name(), &document, question.mode, stops) {
-        Ok(()) => warn_of_schema(findings, schema, &document),
+    match check_document(alloc, set, task.name(), document, question.mode, stops) {
+        Ok(()) => warn_of_schema(findings, schema, document),
         Err(fault) => {
-            add_fault(&task, &mut *findings, schema, &document, stops, fault)?;
+            add_fault(&task, &mut *findings, schema, document, stops, fault)?;
             add_unseen(findings, question)?;
             Ok(())
         }

@@ -1,8 +1,14 @@
 //! What is checked.
-ghost use Rattle.std.specs.Prelude.{◌≡◌};
+ghost use Rattle.std.specs.Prelude.{◌≡◌, IfOk};
+ghost use Rattle.std.specs.Option.{option_map};
+ghost use Rattle.serde_json.specs.View.{view};
 ghost use Rattle.tmpl_report.specs.Safe.{asked_name};
+ghost use Rattle.tmpl_report.specs.computed.Added.{schema_document};
 
+use crate::Result;
+use serde_json::Value;
 use std::alloc::Global;
+use tmpl_json_schema::read_document;
 use tmpl_meaning::MissingKey;
 use tmpl_problems::Source;
 use tmpl_syntax::{Place, Set, base_name};
@@ -18,6 +24,16 @@ pub struct Sources<'a> {
 }
 
 impl<'a> Sources<'a> {
+    /// The JSON value that the schema is, if one is given and is one.
+    pub(crate) fn document(&self, alloc: Global) -> Result<Option<Value>>
+        ensures { IfOk result (λ document. option_map view document ≡ schema_document self.now) }
+    {
+        match &self.schema {
+            Some(schema) => read_document(alloc, schema.bytes.as_slice()),
+            None => Ok(None),
+        }
+    }
+
     /// The template file of this path, and the place in it before which this many bytes stand.
     pub(crate) fn place(&self, path: &[u8], start: usize) -> Option<(&'a str, Place)> {
         let mut files = self.templates.as_slice().iter();

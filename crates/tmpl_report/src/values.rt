@@ -1,6 +1,8 @@
 //! The data beside the files: whether it conforms to the schema, or, where no schema is given, whether the template
 //! renders over it.
 ghost use Rattle.std.specs.Prelude.{◌≡◌, ◌++◌, List, IfOk, Ok, OnOk, false, true, unwrap_or};
+ghost use Rattle.std.specs.Option.{option_map};
+ghost use Rattle.serde_json.specs.View.{view};
 ghost use Rattle.tmpl_values.specs.Json.{data_of};
 ghost use Rattle.tmpl_values.specs.View.{value_of};
 ghost use Rattle.tmpl_syntax.specs.View.{set_view};
@@ -11,7 +13,7 @@ ghost use Rattle.tmpl_problems.specs.Finding.{Finding, has_error};
 ghost use Rattle.tmpl_report.specs.Rendered.{AreOfValues, IsHeld, IsOfFault, IsRendered, IsRenderedOver, is_cut, run_rules};
 ghost use Rattle.tmpl_report.specs.Safe.{asked_name};
 ghost use Rattle.tmpl_report.specs.computed.Ended.{IsEnd};
-ghost use Rattle.tmpl_report.specs.computed.Added.{AddsFault, AddsFaults};
+ghost use Rattle.tmpl_report.specs.computed.Added.{AddsFault, AddsFaults, schema_document};
 
 use crate::Result;
 use crate::detail::{Detail, detail_of};
@@ -31,13 +33,15 @@ const CUT: &str =
     "the run over the data ended at a limit of this check, and what comes after is not checked: 1,000,000 steps, 500 templates inside one another or 16,000,000 bytes of output";
 
 /// Adds what is found of the data beside the files: where it does not conform to the schema; or, if none is given and
-/// nothing is wrong, the fault of the run over it.
+/// nothing is wrong, the fault of the run over it. This is the document of the schema.
 pub(crate) fn add_values<'a>(
     findings: &mut Findings<'a>,
     set: &Set,
     question: &Question<'a>,
     sources: &Sources<'a>,
+    document: Option<&Value>,
 ) -> Result<()>
+    requires { option_map (λ d. view d.now) document ≡ schema_document sources.now }
     ensures rendered { OnOk result (has_error findings.new ≡ false → sources.now.is_short ≡ false
         → IsRendered question.now sources.now (set_view set.now) findings.new) }
     ensures held { OnOk result (has_error findings.new ≡ false → IsHeld sources.now) }
@@ -48,7 +52,7 @@ pub(crate) fn add_values<'a>(
         return Ok(());
     };
     match &sources.schema {
-        Some(schema) => add_held(findings, schema, data),
+        Some(schema) => add_held(findings, schema, document, data),
         None => match question.first {
             Some(first) => {
                 let task = Task {

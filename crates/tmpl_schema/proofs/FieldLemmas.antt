@@ -266,6 +266,17 @@ module _ (base : Base) (N : Names) (means : Means base.defs N) where
       by false is (inl x) e more = absurd (false≢true (sym is ∙ x.0))
       by false is (inr x) e more = more x.1 e
 
+  no-shape : (n : List ℕ) (w : Value) (fs : Fields) → IsField N fs n w → shape_at n fs ≡ None → ⊥
+  no-shape n w no_field h e = h
+  no-shape n w (others t) h e = cc
+  no-shape n w (field name required t fs) h e = by (bytes_eq n name) refl h e (no-shape n w fs)
+    where
+      by : (c : Bool) → bytes_eq n name ≡ c → IsField N (field name required t fs) n w → (if c then Some t else shape_at n fs) ≡ None
+          → (IsField N fs n w → shape_at n fs ≡ None → ⊥) → ⊥
+      by true is h e more = cc
+      by false is (inl x) e more = absurd (false≢true (sym is ∙ x.0))
+      by false is (inr x) e more = more x.1 e
+
   with_field-has : (n : List ℕ) (t : Shape) (w : Value) → HasShape N t w → (fs : Fields) → IsField N fs n w → IsField N (with_field n t fs) n w
   with_field-has n t w g no_field h = h
   with_field-has n t w g (others s) h = inl ((bytes_eq-Decides n n).1 refl, g)
@@ -317,13 +328,13 @@ module _ (base : Base) (N : Names) (means : Means base.defs N) where
   record-refined test f n ns fs es h t g = by (shows_there test || is_required n fs) refl
     where
       at : (w : Value) → entry_at n es ≡ Some w → (o : Option Shape) → shape_at n fs ≡ o
-          → HasShape N (option_map_or (λ s. with_refined n (f ns s) fs) o (record_of fs)) (mapping es)
-      at w is None e = h
+          → HasShape N (option_map_or (λ s. with_refined n (f ns s) fs) o never) (mapping es)
+      at w is None e = absurd (no-shape n w fs (at-entry (IsField N fs) n w es is h.1) e)
       at w is (Some s) e =
           field-refined n (f ns s) fs es w is (g s w (at-has n w s fs (at-entry (IsField N fs) n w es is h.1) e) (entry-ends test n ns es w is t)) h
 
       by : (b : Bool) → (shows_there test || is_required n fs) ≡ b
-          → HasShape N (if b then option_map_or (λ s. with_refined n (f ns s) fs) (shape_at n fs) (record_of fs) else record_of fs) (mapping es)
+          → HasShape N (if b then option_map_or (λ s. with_refined n (f ns s) fs) (shape_at n fs) never else record_of fs) (mapping es)
       by false e = h
       by true e = let w = entry-there test n ns fs es h.2 t e in at w.0 w.1 (shape_at n fs) refl
 

@@ -14,7 +14,7 @@ ghost use Rattle.tmpl_schema.specs.computed.View.{state_of};
 use crate::check::is_stop;
 use crate::failure::{Failure, Position};
 use crate::known::{Known, put_variable};
-use crate::pipeline::pipeline_shape;
+use crate::pipeline::Context;
 use crate::state::State;
 use std::alloc::AllocError;
 use std::rc::Rc;
@@ -50,7 +50,12 @@ fn has_value(judge: &Judge<'_>, commands: &[Command]) -> Result<(), Failure>
     if !are_all_seen(judge.parts.byte, commands) {
         return Err(other(judge));
     }
-    pipeline_shape(judge.base, MissingKey::Zero, judge.state, commands)?;
+    let context = Context {
+        base: judge.base,
+        mode: MissingKey::Zero,
+        state: judge.state,
+    };
+    context.pipeline_shape(commands)?;
     Ok(())
 }
 

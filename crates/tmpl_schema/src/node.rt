@@ -18,14 +18,16 @@ use crate::flow::{dot_after, fall_through, past_parts};
 use crate::known::{
     Known, after_parts, all_within, bind, copy_known, holds_loop, join_all, leave_with, oldest,
 };
-use crate::pipeline::pipeline_shape;
+use crate::pipeline::Context;
 use crate::state::{State, copy_state, narrow, pipeline_origin};
 use crate::table::{Call, Callee, Entry, find_callee};
 use std::alloc::{AllocError, Global};
 use std::rc::Rc;
 use tmpl_grammar::{Control, Header, Pipeline};
 use tmpl_meaning::MissingKey;
-use tmpl_shape::{Base, Cause, Shape, Visit, copy_counted, copy_name, fill, visit_of, within};
+use tmpl_shape::{
+    Base, Cause, Shape, Trouble, Visit, copy_counted, copy_name, fill, visit_of, within,
+};
 use tmpl_syntax::{ControlNode, Node, NodeKind};
 use tmpl_values::Bytes;
 
@@ -44,6 +46,23 @@ impl Checker<'_> {
     /// Whether no work is left.
     pub(crate) fn is_spent(&self) -> bool {
         self.base.effort.is_spent()
+    }
+
+    /// The shape of the value of a pipeline, where this is known, if it never is a fault.
+    pub(crate) fn pipeline_shape(
+        &self,
+        state: &State,
+        pipeline: &Pipeline,
+    ) -> Result<Shape, Trouble>
+        ensures { IfOk result (λ s. pipeline_shape (base_of self.now.base) self.now.mode (state_of state.now)
+            (pipeline_of pipeline.now) ≡ Some (shape_of s)) }
+    {
+        let context = Context {
+            base: &self.base,
+            mode: self.mode,
+            state,
+        };
+        context.pipeline_shape(pipeline.commands.as_slice())
     }
 }
 
@@ -144,12 +163,7 @@ fn after_action(checker: &Checker<'_>, state: &State, header: &Header) -> Result
     ensures { IfOk result (λ ks. after_action (base_of checker.now.base) checker.now.mode (state_of state.now)
         (header_of header.now) ≡ Some (known_of ks)) }
 {
-    let shape = pipeline_shape(
-        &checker.base,
-        checker.mode,
-        state,
-        header.pipeline.commands.as_slice(),
-    )?;
+    let shape = checker.pipeline_shape(state, &header.pipeline)?;
     let from = pipeline_origin(
         checker.base.alloc,
         header.pipeline.commands.as_slice(),
@@ -175,12 +189,7 @@ fn handed_shape(
         (state_of state.now)) (option_map pipeline_of given.now) (Some nothings) ≡ Some (shape_of s)) }
 {
     match given {
-        Some(pipeline) => Ok(pipeline_shape(
-            &checker.base,
-            checker.mode,
-            state,
-            pipeline.commands.as_slice(),
-        )?),
+        Some(pipeline) => Ok(checker.pipeline_shape(state, pipeline)?),
         None => Ok(Shape::Nothings),
     }
 }
@@ -386,12 +395,7 @@ fn after_control(
     if !holds_loop(head, &state.known) {
         return Err(Failure::may_fail(checker.base.alloc, Cause::Variables, None));
     }
-    let shape = pipeline_shape(
-        &checker.base,
-        checker.mode,
-        state,
-        control.header.pipeline.commands.as_slice(),
-    )?;
+    let shape = checker.pipeline_shape(state, &control.header.pipeline)?;
     let parts = Parts {
         header: &control.header,
         body: control.body.as_slice(),

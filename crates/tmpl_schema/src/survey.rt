@@ -9,7 +9,6 @@ use crate::flow::{FallThrough, dot_after, fall_through, past_parts};
 use crate::known::{Known, after_parts, bind, copy_known};
 use crate::loops::check_loop;
 use crate::node::{Checker, after_node, at_head, in_body, in_other, in_turn, settle_soon};
-use crate::pipeline::pipeline_shape;
 use crate::room::first_crowded;
 use crate::state::{State, at_start, copy_state};
 use crate::table::{Call, Callee, Entry};
@@ -218,8 +217,7 @@ fn survey_control(
     found: &mut Found,
 ) -> Result<Known, AllocError> {
     let checker = walk.checker;
-    let commands = control.header.pipeline.commands.as_slice();
-    let shape = match pipeline_shape(&checker.base, checker.mode, state, commands) {
+    let shape = match checker.pipeline_shape(state, &control.header.pipeline) {
         Ok(shape) => shape,
         Err(failure) => {
             found.add(walk, failure.into(), position)?;

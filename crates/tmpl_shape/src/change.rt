@@ -211,7 +211,7 @@ fn refine_record(
                     let shape = refine_by(base, test, steps, rest, shape)?;
                     with_refined(base.alloc, name, shape, fields)
                 }
-                None => Ok(Shape::Record(copy_fields(base.alloc, fields)?)),
+                None => Ok(Shape::Never),
             }
         }
     }

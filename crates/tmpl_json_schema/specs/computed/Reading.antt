@@ -221,7 +221,7 @@ is_required k o = false
 abbrev pub has_content : Data → Bool
 has_content d =
     is_some (get (codes "properties") d) || (is_some (get (codes "required") d)
-    || (is_some (get (codes "additionalProperties") d) || is_some (get (codes "items") d)))
+    || (is_some (get (codes "additionalProperties") d) || (is_some (get (codes "items") d) || is_some (get (codes "minItems") d))))
 
 -- how many items a list has at least
 abbrev pub count_of : Data → ℕ

@@ -1,11 +1,11 @@
 //! The walk over templates that follows where their values come from in a document.
 
 use crate::Result;
-use crate::reasons::origin::{Document, Lost, Origin};
 use std::alloc::AllocError;
 use std::mem;
 use std::str::from_utf8;
 use tmpl_funcs::Func;
+use tmpl_json_schema::{Document, Lost, Provenance};
 use tmpl_schema::{Cause, Doubt};
 use tmpl_syntax::{
     Binding, Command, Control, ControlNode, Node, NodeKind, Operand, Pipeline, Set, Tree,
@@ -29,9 +29,9 @@ const MOST_VARIABLES: usize = 1_000;
 
 /// A template, or a variable, and where its value comes from: none where that is not known.
 #[derive(Drop)]
-pub(crate) struct Source<'w> {
+pub(crate) struct Holder<'w> {
     pub(crate) name: &'w [u8],
-    pub(crate) origin: Option<Origin>,
+    pub(crate) provenance: Option<Provenance>,
 }
 
 /// A walk over a template.
@@ -41,13 +41,13 @@ struct Walk<'w> {
     name: &'w [u8],
     doubts: &'w [Doubt],
     /// For each alarm where the values come from of which it speaks: none where that is not known.
-    asked: Vec<Option<Origin>>,
+    asked: Vec<Option<Provenance>>,
     /// What is handed to templates that are called.
-    handed: Vec<Source<'w>>,
+    handed: Vec<Holder<'w>>,
     /// Where dot comes from.
-    dot: Option<Origin>,
+    dot: Option<Provenance>,
     /// The variables in scope, the innermost last.
-    scope: Vec<Source<'w>>,
+    scope: Vec<Holder<'w>>,
     /// The names of variables that are assigned: nothing is known of them.
     assigned: Vec<&'w [u8]>,
     /// Whether there are more variables than are followed.
@@ -55,39 +55,33 @@ struct Walk<'w> {
 }
 
 /// A copy of where a value comes from, where that is known.
-fn copy(origin: &Option<Origin>) -> Result<Origin, Lost> {
-    match origin {
-        Some(origin) => Ok(origin.clone()?),
+fn copy(provenance: &Option<Provenance>) -> Result<Provenance, Lost> {
+    match provenance {
+        Some(provenance) => Ok(provenance.clone()?),
         None => Err(Lost::Untold),
     }
 }
 
 /// What is found, or none; an error means that memory ran out.
-fn if_told(found: Result<Origin, Lost>) -> Result<Option<Origin>> {
+fn if_told(found: Result<Provenance, Lost>) -> Result<Option<Provenance>> {
     match found {
-        Ok(origin) => Ok(Some(origin)),
+        Ok(provenance) => Ok(Some(provenance)),
         Err(Lost::Untold) => Ok(None),
         Err(Lost::OutOfMemory) => Err(AllocError),
     }
 }
 
 /// Adds where a value may come from too. Gives whether that is more than was known.
-fn widen(known: &mut Option<Origin>, more: &Option<Origin>) -> Result<bool> {
-    let Some(origin) = known else {
+fn widen(known: &mut Option<Provenance>, more: &Option<Provenance>) -> Result<bool> {
+    let Some(provenance) = known else {
         return Ok(false);
     };
-    let before = origin.places.len();
-    let was_there = origin.is_there;
-    let was_whole = origin.is_whole;
-    let is_told = match more {
-        Some(more) => origin.add_all(more),
+    let is_wider = match more {
+        Some(more) => provenance.widen(more),
         None => Err(Lost::Untold),
     };
-    match is_told {
-        Ok(()) => {
-            let is_other = origin.is_there != was_there || origin.is_whole != was_whole;
-            Ok(is_other || origin.places.len() > before)
-        }
+    match is_wider {
+        Ok(is_wider) => Ok(is_wider),
         Err(Lost::OutOfMemory) => Err(AllocError),
         Err(Lost::Untold) => {
             *known = None;
@@ -130,10 +124,10 @@ fn is_number(operand: &Operand, number: u64) -> bool {
 }
 
 /// Where lists come from, if they are no parts of others.
-fn if_whole(found: Result<Origin, Lost>) -> Result<Origin, Lost> {
-    let origin = found?;
-    if origin.is_whole {
-        Ok(origin)
+fn if_whole(found: Result<Provenance, Lost>) -> Result<Provenance, Lost> {
+    let provenance = found?;
+    if provenance.is_whole {
+        Ok(provenance)
     } else {
         Err(Lost::Untold)
     }
@@ -141,44 +135,44 @@ fn if_whole(found: Result<Origin, Lost>) -> Result<Origin, Lost> {
 
 impl<'w> Walk<'w> {
     /// Where the value of a variable comes from.
-    fn variable(&self, name: &[u8]) -> Result<Origin, Lost> {
+    fn variable(&self, name: &[u8]) -> Result<Provenance, Lost> {
         if self.is_crowded || self.assigned.iter().any(|other| *other == name) {
             return Err(Lost::Untold);
         }
-        match self.scope.iter().rev().find(|source| source.name == name) {
-            Some(source) => copy(&source.origin),
+        match self.scope.iter().rev().find(|holder| holder.name == name) {
+            Some(holder) => copy(&holder.provenance),
             None => Err(Lost::Untold),
         }
     }
 
     /// Where the field of the field of .. comes from, by these names.
-    fn chain(&self, start: Origin, names: &[Bytes]) -> Result<Origin, Lost> {
-        let mut origin = start;
+    fn chain(&self, start: Provenance, names: &[Bytes]) -> Result<Provenance, Lost> {
+        let mut provenance = start;
         for name in names {
-            origin = self.field(&origin, name.as_slice())?;
+            provenance = self.field(&provenance, name.as_slice())?;
         }
-        Ok(origin)
+        Ok(provenance)
     }
 
-    fn field(&self, origin: &Origin, name: &[u8]) -> Result<Origin, Lost> {
+    fn field(&self, provenance: &Provenance, name: &[u8]) -> Result<Provenance, Lost> {
         match from_utf8(name) {
-            Ok(name) => self.document.field(origin, name),
+            Ok(name) => self.document.field(provenance, name),
             Err(_) => Err(Lost::Untold),
         }
     }
 
     /// Where what `index` gives for a key comes from.
-    fn entry(&self, origin: &Origin, key: &Operand) -> Result<Origin, Lost> {
+    fn entry(&self, provenance: &Provenance, key: &Operand) -> Result<Provenance, Lost> {
         match key {
-            Operand::Text(key) => self.field(origin, key.as_slice()),
-            Operand::Number(_) => self.document.elements(origin),
+            Operand::Text(key) => self.field(provenance, key.as_slice()),
+            Operand::Number(_) => self.document.elements(provenance),
             _ => Err(Lost::Untold),
         }
     }
 
     /// Where the value of a pipeline comes from.
     #[cycle(value)]
-    fn pipeline(&self, levels: usize, commands: &[Command]) -> Result<Origin, Lost> {
+    fn pipeline(&self, levels: usize, commands: &[Command]) -> Result<Provenance, Lost> {
         if levels == 0 {
             return Err(Lost::Untold);
         }
@@ -191,20 +185,20 @@ impl<'w> Walk<'w> {
 
     /// Where the value of a command comes from.
     #[cycle(value)]
-    fn command(&self, levels: usize, operands: &[Operand]) -> Result<Origin, Lost> {
+    fn command(&self, levels: usize, operands: &[Operand]) -> Result<Provenance, Lost> {
         match operands {
             [operand] => self.operand(levels, operand),
             [Operand::Function(Func::Index), value, keys @ ..] => {
-                let mut origin = self.operand(levels, value)?;
+                let mut provenance = self.operand(levels, value)?;
                 for key in keys {
-                    origin = self.entry(&origin, key)?;
+                    provenance = self.entry(&provenance, key)?;
                 }
-                Ok(origin)
+                Ok(provenance)
             }
             [Operand::Function(Func::Slice), value, ..] => {
-                let mut origin = self.operand(levels, value)?;
-                origin.is_whole = false;
-                Ok(origin)
+                let mut provenance = self.operand(levels, value)?;
+                provenance.is_whole = false;
+                Ok(provenance)
             }
             _ => Err(Lost::Untold),
         }
@@ -212,7 +206,7 @@ impl<'w> Walk<'w> {
 
     /// Where the value of an operand comes from.
     #[cycle(value)]
-    fn operand(&self, levels: usize, operand: &Operand) -> Result<Origin, Lost> {
+    fn operand(&self, levels: usize, operand: &Operand) -> Result<Provenance, Lost> {
         match operand {
             Operand::Dot => copy(&self.dot),
             Operand::Fields(fields) => self.chain(copy(&self.dot)?, fields.as_slice()),
@@ -228,7 +222,7 @@ impl<'w> Walk<'w> {
     }
 
     /// Notes where a value comes from of which the alarm of this index speaks.
-    fn ask(&mut self, index: usize, found: Result<Origin, Lost>) -> Result<()> {
+    fn ask(&mut self, index: usize, found: Result<Provenance, Lost>) -> Result<()> {
         let found = if_told(found)?;
         if let Some(asked) = self.asked.get_mut(index) {
             widen(asked, &found)?;
@@ -240,17 +234,17 @@ impl<'w> Walk<'w> {
     fn look_at(
         &mut self,
         sought: Sought<'_>,
-        start: Result<Origin, Lost>,
+        start: Result<Provenance, Lost>,
         names: &[Bytes],
     ) -> Result<()> {
         let Wanted::Field(wanted) = sought.wanted else {
             return Ok(());
         };
-        let mut origin = start;
+        let mut provenance = start;
         for name in names {
-            let before = origin;
-            origin = match &before {
-                Ok(origin) => self.field(origin, name.as_slice()),
+            let before = provenance;
+            provenance = match &before {
+                Ok(provenance) => self.field(provenance, name.as_slice()),
                 Err(lost) => Err(*lost),
             };
             if name.as_slice() == wanted {
@@ -265,14 +259,14 @@ impl<'w> Walk<'w> {
         &mut self,
         index: usize,
         count: u64,
-        start: Result<Origin, Lost>,
+        start: Result<Provenance, Lost>,
         keys: &[Operand],
     ) -> Result<()> {
-        let mut origin = start;
+        let mut provenance = start;
         for key in keys {
-            let list = origin;
-            origin = match &list {
-                Ok(origin) => self.entry(origin, key),
+            let list = provenance;
+            provenance = match &list {
+                Ok(provenance) => self.entry(provenance, key),
                 Err(lost) => Err(*lost),
             };
             if is_number(key, count.saturating_sub(1)) {
@@ -335,7 +329,12 @@ impl<'w> Walk<'w> {
 
     /// Looks for what the alarms speak of in the pipeline of an action that begins after this many bytes, which may be
     /// that of a range. Gives where its value comes from.
-    fn value(&mut self, at: usize, pipeline: &Pipeline, is_range: bool) -> Result<Option<Origin>> {
+    fn value(
+        &mut self,
+        at: usize,
+        pipeline: &Pipeline,
+        is_range: bool,
+    ) -> Result<Option<Provenance>> {
         let commands = pipeline.commands.as_slice();
         let doubts = self.doubts;
         for (index, doubt) in doubts.iter().enumerate() {
@@ -353,22 +352,22 @@ impl<'w> Walk<'w> {
     }
 
     /// Puts a variable into scope.
-    fn declare(&mut self, name: &'w [u8], origin: &Option<Origin>) -> Result<()> {
+    fn declare(&mut self, name: &'w [u8], provenance: &Option<Provenance>) -> Result<()> {
         if self.scope.len() >= MOST_VARIABLES {
             self.is_crowded = true;
             return Ok(());
         }
-        let origin = origin.clone()?;
-        Ok(self.scope.push(Source { name, origin })?)
+        let provenance = provenance.clone()?;
+        Ok(self.scope.push(Holder { name, provenance })?)
     }
 
     /// Binds the variables of a header to a value.
-    fn bind(&mut self, binding: &'w Binding, origin: &Option<Origin>) -> Result<()> {
+    fn bind(&mut self, binding: &'w Binding, provenance: &Option<Provenance>) -> Result<()> {
         match binding {
-            Binding::Declare(name) => self.declare(name.as_slice(), origin),
+            Binding::Declare(name) => self.declare(name.as_slice(), provenance),
             Binding::DeclarePair(pair) => {
                 self.declare(pair.key.as_slice(), &None)?;
-                self.declare(pair.element.as_slice(), origin)
+                self.declare(pair.element.as_slice(), provenance)
             }
             Binding::Unbound | Binding::Assign(_) => Ok(()),
         }
@@ -395,17 +394,17 @@ impl<'w> Walk<'w> {
         match &node.what {
             NodeKind::Text(_) | NodeKind::Break | NodeKind::Continue => Ok(()),
             NodeKind::Action(header) => {
-                let origin = self.value(node.start, &header.pipeline, false)?;
-                self.bind(&header.binding, &origin)
+                let provenance = self.value(node.start, &header.pipeline, false)?;
+                self.bind(&header.binding, &provenance)
             }
             NodeKind::Control(control) => self.control(levels, node.start, control),
             NodeKind::Template(name, pipeline) => {
-                let origin = match pipeline {
+                let provenance = match pipeline {
                     Some(pipeline) => self.value(node.start, pipeline, false)?,
                     None => None,
                 };
                 let name = name.as_slice();
-                Ok(self.handed.push(Source { name, origin })?)
+                Ok(self.handed.push(Holder { name, provenance })?)
             }
         }
     }
@@ -417,7 +416,7 @@ impl<'w> Walk<'w> {
         let is_range = control.control == Control::Range;
         let value = self.value(start, &control.header.pipeline, is_range)?;
         let inside = match &value {
-            Some(origin) if is_range => if_told(self.document.elements(origin))?,
+            Some(provenance) if is_range => if_told(self.document.elements(provenance))?,
             _ => value.clone()?,
         };
         self.bind(&control.header.binding, &inside)?;
@@ -472,8 +471,8 @@ fn add_assigned<'w>(levels: usize, nodes: &'w [Node], names: &mut Vec<&'w [u8]>)
 fn walk_tree<'w>(
     document: Document<'w>,
     doubts: &'w [Doubt],
-    asked: Vec<Option<Origin>>,
-    dot: &Source<'w>,
+    asked: Vec<Option<Provenance>>,
+    dot: &Holder<'w>,
     tree: &'w Tree,
 ) -> Result<Walk<'w>> {
     let alloc = document.alloc;
@@ -485,22 +484,22 @@ fn walk_tree<'w>(
         doubts,
         asked,
         handed: Vec::new(alloc),
-        dot: dot.origin.clone()?,
+        dot: dot.provenance.clone()?,
         scope: Vec::new(alloc),
         is_crowded: assigned.len() >= MOST_VARIABLES,
         assigned,
     };
-    walk.declare(b"", &dot.origin)?;
+    walk.declare(b"", &dot.provenance)?;
     walk.nodes(MOST_CONTROLS, tree.nodes.as_slice())?;
     Ok(walk)
 }
 
 /// Notes what is handed to a template. Gives whether that is more than was known.
-fn hand<'w>(dots: &mut Vec<Source<'w>>, handed: Source<'w>) -> Result<bool> {
+fn hand<'w>(dots: &mut Vec<Holder<'w>>, handed: Holder<'w>) -> Result<bool> {
     let place = dots.iter().position(|dot| dot.name == handed.name);
     let is_full = dots.len() >= MOST_TEMPLATES;
     match place.and_then(|place| dots.get_mut(place)) {
-        Some(dot) => widen(&mut dot.origin, &handed.origin),
+        Some(dot) => widen(&mut dot.provenance, &handed.provenance),
         None if is_full => Ok(false),
         None => {
             dots.push(handed)?;
@@ -510,7 +509,7 @@ fn hand<'w>(dots: &mut Vec<Source<'w>>, handed: Source<'w>) -> Result<bool> {
 }
 
 /// Visits each template that is reached once. Gives whether more was found to be passed.
-fn round<'w>(document: Document<'w>, set: &'w Set, dots: &mut Vec<Source<'w>>) -> Result<bool> {
+fn round<'w>(document: Document<'w>, set: &'w Set, dots: &mut Vec<Holder<'w>>) -> Result<bool> {
     let mut is_more = false;
     for index in 0..=set.len() {
         let Some(dot) = dots.get(index) else {
@@ -520,8 +519,8 @@ fn round<'w>(document: Document<'w>, set: &'w Set, dots: &mut Vec<Source<'w>>) -
             continue;
         };
         let Walk { handed, .. } = walk_tree(document, &[], Vec::new(document.alloc), dot, tree)?;
-        for source in handed.into_iter() {
-            is_more |= hand(dots, source)?;
+        for holder in handed.into_iter() {
+            is_more |= hand(dots, holder)?;
         }
     }
     Ok(is_more)
@@ -533,10 +532,10 @@ pub(crate) fn asked_of<'w>(
     set: &'w Set,
     name: &'w [u8],
     doubts: &'w [Doubt],
-) -> Result<Vec<Option<Origin>>> {
+) -> Result<Vec<Option<Provenance>>> {
     let alloc = document.alloc;
-    let origin = if_told(Origin::whole(alloc))?;
-    let mut dots = vec![in alloc; Source { name, origin }]?;
+    let provenance = if_told(Provenance::of_data(alloc))?;
+    let mut dots = vec![in alloc; Holder { name, provenance }]?;
     let mut asked = Vec::new(alloc);
     for rounds in 0..MOST_ROUNDS {
         if !round(document, set, &mut dots)? {
@@ -550,7 +549,7 @@ pub(crate) fn asked_of<'w>(
         return Ok(asked);
     }
     for _ in doubts {
-        asked.push(Some(Origin::new(alloc)))?;
+        asked.push(Some(Provenance::of_nothing(alloc)))?;
     }
     for dot in dots.as_slice() {
         if let Some(tree) = set.get(dot.name) {

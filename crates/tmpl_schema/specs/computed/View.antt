@@ -5,7 +5,7 @@ use Rattle.std.specs.Borrow.{Bor}
 use Rattle.std.specs.Global.{Global}
 use Rattle.tmpl_shape.specs.Shape as spec
 use Rattle.tmpl_shape.specs.View.{shape_of}
-use Rattle.tmpl_shape.specs.computed.View.{test_seen}
+use Rattle.tmpl_shape.specs.computed.View.{base_of, test_seen}
 use Rattle.tmpl_shape.specs.computed.Calls.{call_shape}
 use Rattle.tmpl_shape.specs.declared.kind.Kinds.{Kinds}
 use Rattle.tmpl_grammar.specs.View.{operand_of, operands_in}
@@ -33,6 +33,7 @@ use Rattle.tmpl_shape.specs.computed.Shapes.{kinds_of, visit_of}
 use Rattle.tmpl_schema.specs.declared.known.Known as held_known
 use Rattle.tmpl_schema.specs.declared.known.Known.{fold-Known}
 use Rattle.tmpl_schema.specs.declared.known.Known.TheOpen.{Known-F, Variable-F}
+use Rattle.tmpl_schema.specs.declared.pipeline.Context as held_context
 use Rattle.tmpl_schema.specs.declared.state.State as held_state
 
 abbrev pub origin_of : Option (Vec (List ℕ) Global) → Origin
@@ -59,6 +60,10 @@ is_longer (x ∷ xs) (y ∷ ys) = is_longer xs ys
 
 abbrev pub state_of : held_state.State → State
 state_of k = record { dot = shape_of k.dot.value; from = origin_of k.origin; env = known_of k.known }
+
+-- what is computed where a pipeline stands
+abbrev pub in_context : {T : Type 0} → held_context.Context → (computed.Base → MissingKey → State → T) → T
+in_context c f = f (base_of c.base.now) c.mode (state_of c.state.now)
 
 abbrev pub head_seen : held_head.Head → Head
 head_seen (head.Function f) = calls f

@@ -329,7 +329,7 @@ module _ (base : Base) where
   abbrev pub refine_record : Test → (List (List ℕ) → Shape → Shape) → List (List ℕ) → Fields → Shape
   refine_record test f [] fs = record_of fs
   refine_record test f (name ∷ ns) fs = if shows_there test || is_required name fs then
-      option_map_or (λ s. with_refined name (f ns s) fs) (shape_at name fs) (record_of fs) else record_of fs
+      option_map_or (λ s. with_refined name (f ns s) fs) (shape_at name fs) never else record_of fs
 
   -- of the values of which the test shows what it does of the field of the field of ..
   abbrev pub refine_step : Test → (List (List ℕ) → Shape → Shape) → List (List ℕ) → Shape → Shape

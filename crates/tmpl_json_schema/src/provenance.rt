@@ -1,16 +1,16 @@
 //! Where in a document values come from: at which places a schema stands that they conform to.
 
 ghost use Rattle.std.specs.Prelude.{◌≡◌};
-ghost use Rattle.tmpl_report.specs.declared.reasons.origin.Lost.TheVariants as lost;
+ghost use Rattle.tmpl_json_schema.specs.declared.provenance.Lost.TheVariants as lost;
 
 use crate::Result;
+use crate::fault::SchemaFault;
+use crate::fields::{has_content, requires_key};
+use crate::kinds::{Kinds, is_every_kind, kinds_of, lets_no_map};
+use crate::read::{choices_in, chosen_by, items_in};
 use percent_encoding::{DecodeError, percent_decode};
 use serde_json::Value;
 use std::alloc::{AllocError, Global};
-use tmpl_json_schema::{
-    Kinds, SchemaFault, choices_in, chosen_by, has_content, is_every_kind, items_in, kinds_of,
-    lets_no_map, requires_key,
-};
 
 /// The most places that are followed at once.
 const MOST_PLACES: usize = 64;
@@ -20,7 +20,7 @@ const LEVELS: usize = 50;
 
 /// Why the provenance of values is not known.
 #[derive(Clone, Copy)]
-pub(crate) enum Lost {
+pub enum Lost {
     OutOfMemory,
     /// They come from elsewhere, or from too many places.
     Untold,
@@ -34,40 +34,39 @@ impl From<AllocError> for Lost {
     }
 }
 
-/// A document.
+/// A document in which the provenance of values is looked up.
 #[derive(Clone, Copy)]
-pub(crate) struct Document<'d> {
-    pub(crate) root: &'d Value,
-    pub(crate) bytes: &'d [u8],
-    pub(crate) alloc: Global,
+pub struct Document<'d> {
+    pub root: &'d Value,
+    pub alloc: Global,
 }
 
 /// Where a value comes from.
 #[derive(Clone, Drop)]
-pub(crate) struct Origin {
+pub struct Provenance {
     /// The JSON Pointers of the schemas of which it conforms to one.
     pub(crate) places: Vec<String>,
     /// Whether it is no field that may be absent, nor a field of such a one.
     pub(crate) is_there: bool,
     /// Whether it is no part of a list.
-    pub(crate) is_whole: bool,
+    pub is_whole: bool,
 }
 
-impl Origin {
+impl Provenance {
     /// That of no value.
-    pub(crate) fn new(alloc: Global) -> Origin {
-        Origin {
+    pub fn of_nothing(alloc: Global) -> Provenance {
+        Provenance {
             places: Vec::new(alloc),
             is_there: true,
             is_whole: true,
         }
     }
 
-    /// That of the whole document.
-    pub(crate) fn whole(alloc: Global) -> Result<Origin, Lost> {
-        let mut origin = Origin::new(alloc);
-        origin.add(String::new(alloc))?;
-        Ok(origin)
+    /// That of the data of the document.
+    pub fn of_data(alloc: Global) -> Result<Provenance, Lost> {
+        let mut provenance = Provenance::of_nothing(alloc);
+        provenance.add(String::new(alloc))?;
+        Ok(provenance)
     }
 
     /// Adds a place.
@@ -90,19 +89,22 @@ impl Origin {
         self.add(below(alloc, place, part)?)
     }
 
-    /// Adds those of another.
-    pub(crate) fn add_all(&mut self, other: &Origin) -> Result<(), Lost> {
+    /// Adds that of another value. Gives whether it is more than before.
+    pub fn widen(&mut self, other: &Provenance) -> Result<bool, Lost> {
+        let before = self.places.len();
+        let is_less_known = (self.is_there && !other.is_there)
+            || (self.is_whole && !other.is_whole);
         self.is_there = self.is_there && other.is_there;
         self.is_whole = self.is_whole && other.is_whole;
         for place in other.places.as_slice() {
             self.add(place.clone()?)?;
         }
-        Ok(())
+        Ok(is_less_known || self.places.len() > before)
     }
 }
 
-/// The pointer to a part of what another points to.
-pub(crate) fn below(alloc: Global, place: &str, part: &str) -> Result<String> {
+/// The JSON Pointer to a part of what another points to.
+pub fn below(alloc: Global, place: &str, part: &str) -> Result<String> {
     let mut pointer = String::from_str(alloc, place)?;
     pointer.push('/')?;
     for letter in part.chars() {
@@ -142,7 +144,7 @@ impl<'d> Document<'d> {
     }
 
     /// Adds the places that a place stands for, with no reference and no alternatives at them.
-    fn add_plain(&self, levels: usize, place: &str, plain: &mut Origin) -> Result<(), Lost> {
+    fn add_plain(&self, levels: usize, place: &str, plain: &mut Provenance) -> Result<(), Lost> {
         if levels == 0 {
             return Err(Lost::Untold);
         }
@@ -172,18 +174,23 @@ impl<'d> Document<'d> {
     }
 
     /// The places that those of a provenance stand for.
-    pub(crate) fn plain(&self, origin: &Origin) -> Result<Origin, Lost> {
-        let mut plain = Origin::new(self.alloc);
-        plain.is_there = origin.is_there;
-        plain.is_whole = origin.is_whole;
-        for place in origin.places.as_slice() {
+    pub(crate) fn plain(&self, provenance: &Provenance) -> Result<Provenance, Lost> {
+        let mut plain = Provenance::of_nothing(self.alloc);
+        plain.is_there = provenance.is_there;
+        plain.is_whole = provenance.is_whole;
+        for place in provenance.places.as_slice() {
             self.add_plain(LEVELS, place.as_str(), &mut plain)?;
         }
         Ok(plain)
     }
 
     /// Adds the place of what stands under a keyword of the schema at a place.
-    fn add_under(&self, place: &str, keyword: &str, origin: &mut Origin) -> Result<(), Lost> {
+    fn add_under(
+        &self,
+        place: &str,
+        keyword: &str,
+        provenance: &mut Provenance,
+    ) -> Result<(), Lost> {
         let schema = self.schema_at(place)?;
         if keyword == "items" && items_in(schema).is_none() {
             return Err(Lost::Untold);
@@ -193,19 +200,24 @@ impl<'d> Document<'d> {
         }
         match schema.get(keyword) {
             Some(Value::Bool(false)) => Ok(()),
-            Some(_) => origin.add_below(self.alloc, place, keyword),
+            Some(_) => provenance.add_below(self.alloc, place, keyword),
             None => Err(Lost::Untold),
         }
     }
 
     /// Adds the place of the property of this name of the schema at a place.
-    fn add_property(&self, place: &str, name: &str, origin: &mut Origin) -> Result<(), Lost> {
+    fn add_property(
+        &self,
+        place: &str,
+        name: &str,
+        provenance: &mut Provenance,
+    ) -> Result<(), Lost> {
         let properties = below(self.alloc, place, "properties")?;
-        origin.add_below(self.alloc, properties.as_str(), name)
+        provenance.add_below(self.alloc, properties.as_str(), name)
     }
 
     /// Adds where the field of this name of a map comes from that conforms to the schema at a plain place.
-    fn add_field(&self, place: &str, name: &str, field: &mut Origin) -> Result<(), Lost> {
+    fn add_field(&self, place: &str, name: &str, field: &mut Provenance) -> Result<(), Lost> {
         let schema = self.schema_at(place)?;
         if !requires_key(schema, name) {
             field.is_there = false;
@@ -220,7 +232,7 @@ impl<'d> Document<'d> {
     }
 
     /// Adds where the entries of a map come from that conforms to the schema at a plain place.
-    fn add_entries(&self, place: &str, entries: &mut Origin) -> Result<(), Lost> {
+    fn add_entries(&self, place: &str, entries: &mut Provenance) -> Result<(), Lost> {
         self.add_under(place, "additionalProperties", entries)?;
         if let Some(Value::Object(properties)) = self.schema_at(place)?.get("properties") {
             for name in properties.keys() {
@@ -231,7 +243,7 @@ impl<'d> Document<'d> {
     }
 
     /// Adds where the elements of lists and maps come from that conform to the schema at a plain place.
-    fn add_elements(&self, place: &str, elements: &mut Origin) -> Result<(), Lost> {
+    fn add_elements(&self, place: &str, elements: &mut Provenance) -> Result<(), Lost> {
         let schema = self.schema_at(place)?;
         let kinds = self.kinds(schema)?;
         if kinds.list {
@@ -244,9 +256,9 @@ impl<'d> Document<'d> {
     }
 
     /// Where the field of this name of such values comes from.
-    pub(crate) fn field(&self, origin: &Origin, name: &str) -> Result<Origin, Lost> {
-        let plain = self.plain(origin)?;
-        let mut field = Origin::new(self.alloc);
+    pub fn field(&self, provenance: &Provenance, name: &str) -> Result<Provenance, Lost> {
+        let plain = self.plain(provenance)?;
+        let mut field = Provenance::of_nothing(self.alloc);
         field.is_there = plain.is_there;
         for place in plain.places.as_slice() {
             let schema = self.schema_at(place.as_str())?;
@@ -262,9 +274,9 @@ impl<'d> Document<'d> {
     }
 
     /// Where the elements of such lists and maps come from.
-    pub(crate) fn elements(&self, origin: &Origin) -> Result<Origin, Lost> {
-        let plain = self.plain(origin)?;
-        let mut elements = Origin::new(self.alloc);
+    pub fn elements(&self, provenance: &Provenance) -> Result<Provenance, Lost> {
+        let plain = self.plain(provenance)?;
+        let mut elements = Provenance::of_nothing(self.alloc);
         for place in plain.places.as_slice() {
             self.add_elements(place.as_str(), &mut elements)?;
         }
