@@ -1,5 +1,5 @@
 //! Why a document lets through what may be a fault of a template.
-ghost use Rattle.std.specs.Prelude.{◌≡◌, IfOk, IfSome};
+ghost use Rattle.std.specs.Prelude.{IfOk, IfSome};
 ghost use Rattle.tmpl_json_schema.specs.Permission.{Explains, IsFor, absence, few, kind, sort_of};
 
 use crate::fields::{has_content, least_items, requires_key};
