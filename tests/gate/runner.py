@@ -82,11 +82,11 @@ CRATE = re.compile(r"rt: (\w+)(?: proved| is kept)\b")  # a line of `rt ci` that
 SLOWEST = 5
 ROOM = 6_000_000_000  # bytes that are free when a check begins beside the proofs
 YIELDING = ("nice", "-n", "19")
-# what runs of `rt ci` prove beside the one that proves all, once each crate below the first has been proved by a run of its own: such a run has
-# two processors for its crate, and reckons with the memory that is free when it begins. One by itself reckons a check at twice what it takes,
-# and gives a crate one processor where others wait, so processors are idle
-LAST = (("tmpl_report", "tmpl_c"), ("tmpl_check",))
-LEAD = 30  # seconds after which the first of these has begun with its first crate
+# what runs of `rt ci` prove, a crate each, beside the one that proves all, once each crate below the first has been proved by a run of its own:
+# such a run has two processors for its crate, and reckons with the memory that is free when it begins. One by itself reckons a check at twice
+# what it takes, and gives a crate one processor where others wait, so processors are idle
+LAST = ("tmpl_report", "tmpl_c", "tmpl_check")
+LEAD = 30  # seconds after which the first of these has begun
 ROOM_FOR_A_CRATE = 5_500_000_000  # bytes, more than a check of a crate takes
 
 
@@ -156,7 +156,7 @@ class Beside:
             self.futures[crate] = self.pool.submit(self.run, crate, self.try_bodies)
         if crate == "tmpl":
             self.futures.update({it: self.pool.submit(self.run, it, self.its.test_beside) for it in self.tests})
-        if crate == LAST[0][0] and self.reads:
+        if crate == LAST[0] and self.reads:
             self.futures["edits"] = self.pool.submit(self.run, "edits", self.read_edits)
 
     def begin(self, name):
@@ -217,17 +217,17 @@ def prove(progress, beside):
     # the toolchain takes no names of crates where CI is set
     is_apart = slots > 1 and "RT_JOBS" not in os.environ and os.environ.get("CI") != "true"
     with ThreadPoolExecutor(slots) as pool:
-        def crates(names, has_two=True):
+        def crate(name, has_two=True):
             # two processors for a crate end it sooner, and take a quarter more of their time
             how = os.environ if has_two else {**os.environ, "RT_JOBS": "1"}
-            return pool.submit(lambda: run(PROOFS, how, see, " ".join(names))[2])
+            return pool.submit(lambda: run(PROOFS, how, see, name)[2])
 
         used, last = 0, []
         if is_apart:
-            used = prove_below(LAST[0][0], slots, crates, progress.recorded["crates"])
-            for names in LAST:
-                last.append(crates(names))
-                time.sleep(LEAD)
+            used = prove_below(LAST[0], slots, crate, progress.recorded["crates"])
+            last.append(crate(LAST[0]))
+            time.sleep(LEAD)
+            last += [crate(name) for name in LAST[1:]]
         passed, failed, seconds = run(PROOFS, os.environ, see_last)
         seconds += used + sum(it.result() for it in last)
     progress.crates.clear()
@@ -251,7 +251,7 @@ def prove_below(crate, slots, begin, recorded):
         is_any_idle = len(ready) + len(running) < harness.processes()
         for name in ready[: slots - len(running)]:
             left.remove(name)
-            running[begin([name], is_any_idle)] = name
+            running[begin(name, is_any_idle)] = name
         for it in wait(running, return_when=FIRST_COMPLETED).done:
             running.pop(it)
             used += it.result()
