@@ -41,14 +41,14 @@ TRIED = {
     "tmpl_formats": "a_column_too_few stack_forgotten single_quote_left_open word_of_yaml_1_1_taken marks_over_an_alternative",
     "tmpl_grammar": "range_assigns octal_escape_past_a_byte",
     "tmpl_hints": "end_told_as_a_jump broken_byte_told_by_a_mark",
-    "tmpl_json_schema": "keyword_of_no_list most_items_taken_for_least too_much_taken_for_no_value type_of_the_last_sample_only a_fraction_taken_for_no_number",
+    "tmpl_json_schema": "keyword_of_no_list type_of_the_last_sample_only a_fraction_taken_for_no_number",
     "tmpl_problems": (
         "newline_as_it_is piped_value_is_no_argument more_than_the_refusals one_brace_and_a_space_is_a_sign fraction_accepted"
         " data_problem_by_another_rule errors_only_where_all_are note_told_as_an_error line_and_column_exchanged key_without_quotes"
     ),
     "tmpl_report": "another_fault_said limit_told_for_a_doubt",
-    "tmpl_schema": "a_join_that_keeps_one_side a_part_that_may_end_taken_for_the_other one_part_taken_for_both",
-    "tmpl_shape": "each_field_required a_field_required_by_neither a_number_compared_with_a_text a_string_taken_for_none_of_its_constants a_boolean_taken_for_the_other",
+    "tmpl_schema": "a_join_that_keeps_one_side a_part_that_may_end_taken_for_the_other",
+    "tmpl_shape": "each_field_required a_boolean_taken_for_the_other",
 }
 MEMORY = 4_000_000_000  # bytes, more than a check of some functions takes
 
