@@ -1,5 +1,5 @@
 -- For code on controls: what is known after one, by what is known after its parts.
-use Rattle.std.proofs.Common.{rules, ◌≡◌, true, Option, Some, refl, subst}
+use Rattle.std.proofs.Common.{rules, ◌≡◌, true, Option, Some, None, refl, subst}
 use Rattle.tmpl_grammar.specs.Tree.{Header}
 use Rattle.tmpl_grammar.specs.declared.tree.Control.{Control}
 use Rattle.tmpl_grammar.specs.View.{header_of}
@@ -11,22 +11,22 @@ use Rattle.tmpl_syntax.specs.declared.tree.ControlNode.{ControlNode, out-Control
 use Rattle.tmpl_meaning.specs.declared.missing_key.MissingKey.{MissingKey}
 use Rattle.tmpl_shape.specs.Shape.{Shape}
 use Rattle.tmpl_shape.specs.computed.Shapes.{Base, Visit, visit_of}
-use Rattle.tmpl_schema.specs.computed.Check.{Known, State, Table, after_parts, past_parts, after_node, after_nodes, at_head, fall_through, holds_loop, in_body, in_other, settle_soon, pipeline_shape}
+use Rattle.tmpl_schema.specs.computed.Check.{After, Known, State, Table, end_parts, past, past_parts, after_node, after_nodes, at_head, fall_through, holds_loop, in_body, in_other, settle_soon, pipeline_shape}
 use Rattle.tmpl_schema.specs.computed.View.{after_choice_by, after_range_by, ranged_by, turn_by}
 
 module _ (base : Base) (m : MissingKey) (table : Table) (loop : Option Known) (h : Header) (k : State) (body other : Nodes) where
-  pub choice-after : (c : Control) (s : Shape) (one two ks : Known) → after_nodes base m table loop (in_body base c h k s) body ≡ Some one
-      → after_nodes base m table loop (in_other base h k s) other ≡ Some two
-      → after_parts base (fall_through table body other) k.env one two ≡ Some ks → after_choice_by base m table loop c h k body other s ≡ Some ks
-  choice-after c s one two ks a b e = rw (a, b) e
+  pub choice-after : (c : Control) (s : Shape) (one two a : After) → after_nodes base m table loop None (in_body base c h k s) body ≡ Some one
+      → after_nodes base m table loop None (in_other base h k s) other ≡ Some two
+      → end_parts base (fall_through table body other) k.env one two ≡ Some a → after_choice_by base m table loop c h k body other s ≡ Some a
+  choice-after c s one two a is_one is_two e = rw (is_one, is_two) e
 
-  pub visit-after : (s : Shape) (v : Visit) (ks : Known) → visit_of base h.binding s ≡ Some v
-      → after_range_by base m table loop h k body other v ≡ Some ks → ranged_by base m table loop h k body other s ≡ Some ks
-  visit-after s v ks a e = rw a e
+  pub visit-after : (s : Shape) (v : Visit) (a : After) → visit_of base h.binding s ≡ Some v
+      → after_range_by base m table loop h k body other v ≡ Some a → ranged_by base m table loop h k body other s ≡ Some a
+  visit-after s v a is e = rw is e
 
-  pub range-is : (v : Visit) (start head two : Known) → start ≡ at_head base h k → settle_soon base (turn_by base m table h v body) start ≡ Some head
-      → after_nodes base m table loop k other ≡ Some two
-      → after_range_by base m table loop h k body other v ≡ after_parts base (past_parts control.Range table body other) k.env head two
+  pub range-is : (v : Visit) (start head : Known) (two : After) → start ≡ at_head base h k → settle_soon base (turn_by base m table h v body) start ≡ Some head
+      → after_nodes base m table loop None k other ≡ Some two
+      → after_range_by base m table loop h k body other v ≡ end_parts base (past_parts control.Range table body other) k.env (past head) two
   range-is v start head two is a b =
       let found : settle_soon base (turn_by base m table h v body) (at_head base h k) ≡ Some head =
       subst (λ (i : Known). settle_soon base (turn_by base m table h v body) i ≡ Some head) is a in rw (found, b) refl

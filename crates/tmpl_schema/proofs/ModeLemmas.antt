@@ -31,10 +31,10 @@ use Rattle.tmpl_schema.specs.computed.Check.{alone, key_of, text_of, deciding_sh
 use Rattle.tmpl_schema.specs.computed.Check.{entry_by, entry_for}
 use Rattle.tmpl_schema.specs.computed.Check.{operand_shape, operand_shapes, junction_shape, entry_along, indexed_shape}
 use Rattle.tmpl_schema.specs.computed.Check.{sliced_shape, printed_shape, command_shape, commands_shape, pipeline_shape}
-use Rattle.tmpl_schema.specs.computed.Check.{all_within, join_all, settle_known, settle_soon}
+use Rattle.tmpl_schema.specs.computed.Check.{After, all_within, end_parts, join_all, join_left, past, settle_known, settle_soon, with_left, last_of}
 use Rattle.tmpl_schema.specs.computed.Check.{leave_with, holds_loop, turn_known, in_body, in_other, at_start, is_safe}
 use Rattle.tmpl_schema.specs.computed.Check.{at_head, after_choice, after_range, after_control, after_call}
-use Rattle.tmpl_schema.specs.computed.Check.{after_node, after_nodes, after_parts, dot_after, past_parts}
+use Rattle.tmpl_schema.specs.computed.Check.{after_node, after_nodes, dot_after, past_parts}
 use Rattle.tmpl_schema.specs.declared.flow.FallThrough.{FallThrough}
 use Rattle.tmpl_schema.specs.computed.Safe.{IsAccepted, IsCallee, IsChecked, mode_for}
 
@@ -202,14 +202,15 @@ module _ (base : Base) where
     choice-keeps : (w : FallThrough) (c : Control) (f g other rest : Checked) → KeepsEach f g → KeepsEach other rest → (s : Shape)
         → Keeps (after_choice base w c h k f other s) (after_choice base w c h k g rest s)
     choice-keeps w c f g other rest in_f in_rest s =
-        then-keeps _ _ _ _ (λ a. then-keeps _ _ _ _ (λ b. keeps-same (after_parts base w k.env a b))
+        then-keeps _ _ _ _ (λ a. then-keeps _ _ _ _ (λ b. keeps-same (end_parts base w k.env a b))
         (in_rest (in_other base h k s))) (in_f (in_body base c h k s))
 
     range-keeps : (w : FallThrough) (f g : Option Known → Checked) (other rest : Checked) → ((l : Option Known) → KeepsEach (f l) (g l))
         → KeepsEach other rest → (v : Visit) → Keeps (after_range base w h k f other v) (after_range base w h k g rest v)
     range-keeps w f g other rest in_f in_rest v =
-        then-keeps _ _ _ _ (λ a. then-keeps _ _ _ _ (λ b. keeps-same (after_parts base w k.env a b)) (in_rest k))
-        (soon-keeps (turn_known h v f) (turn_known h v g) (λ ks. map-keeps _ _ _ (in_f (Some ks) _)) (at_head base h k))
+        then-keeps _ _ _ _ (λ head. then-keeps _ _ _ _ (λ b. keeps-same (end_parts base w k.env (past head) b)) (in_rest k))
+        (soon-keeps (turn_known base h v f) (turn_known base h v g)
+        (λ ks. then-keeps _ _ _ _ (λ a. keeps-same (with_left base (last_of (length ks) a.env) a.left)) (in_f (Some ks) _)) (at_head base h k))
 
     control-keeps : (w : FallThrough) (c : Control) (loop : Option Known) (f g : Option Known → Checked) (other rest : Checked)
         → ((l : Option Known) → KeepsEach (f l) (g l)) → KeepsEach other rest → (s : Shape)
@@ -224,7 +225,7 @@ module _ (base : Base) where
   call-keeps : (c : Callee) (ks : Known) (o p : Option Shape) → Keeps o p
       → Keeps (after_call base c ks o) (after_call base c ks p)
   call-keeps absent ks o p h = refl
-  call-keeps (handed t) ks o p h = then-keeps _ _ o p (λ s. keeps-same (if within base s t then Some ks else None)) h
+  call-keeps (handed t) ks o p h = then-keeps _ _ o p (λ s. keeps-same (if within base s t then Some (past ks) else None)) h
 
 module _ (base : Base) (m : MissingKey) (table : Table) where
   -- ---- nodes
@@ -243,29 +244,30 @@ module _ (base : Base) (m : MissingKey) (table : Table) where
     node-keeps (control_node c h body other) loop k =
         if-keeps (holds_loop loop k.env) _ _ None None
         (then-keeps _ _ _ _
-        (control-keeps base h k (past_parts c table body other) c loop _ _ _ _ (λ l u. nodes-keep body l u) (λ u. nodes-keep other loop u))
+        (control-keeps base h k (past_parts c table body other) c loop _ _ _ _ (λ l u. nodes-keep body l None u) (λ u. nodes-keep other loop None u))
         (pipeline-keeps base m h.pipeline k)) tt
-    node-keeps break_node loop k = keeps-same (leave_with base k.env loop)
-    node-keeps continue_node loop k = keeps-same (leave_with base k.env loop)
+    node-keeps break_node loop k = keeps-same (leave_with k.env loop)
+    node-keeps continue_node loop k = keeps-same (leave_with k.env loop)
     node-keeps (template_node name given) loop k =
         same-keeps _ _ (table name) (λ c. call-keeps base c k.env _ _ (given-keeps given k))
 
-    nodes-keep : (ns : Nodes) (loop : Option Known) (k : State)
-        → Keeps (after_nodes base Error table loop k ns) (after_nodes base m table loop k ns)
-    nodes-keep tree.none loop k = refl
-    nodes-keep (tree.then line n ns) loop k =
-        then-keeps _ _ _ _ (λ ks. nodes-keep ns loop (record k { dot = dot_after base table k n; env = ks })) (node-keeps n loop k)
+    nodes-keep : (ns : Nodes) (loop left : Option Known) (k : State)
+        → Keeps (after_nodes base Error table loop left k ns) (after_nodes base m table loop left k ns)
+    nodes-keep tree.none loop left k = refl
+    nodes-keep (tree.then line n ns) loop left k =
+        then-keeps _ _ _ _ (λ a. same-keeps _ _ (join_left base left a.left)
+        (λ ls. nodes-keep ns loop ls (record k { dot = dot_after base table k n; env = a.env }))) (node-keeps n loop k)
 
   -- ---- templates
 
   -- what is accepted in the mode `error` is accepted in each
   pub safe-keeps : (s : Shape) (ns : Nodes) → is_safe base Error table s ns ≡ true → is_safe base m table s ns ≡ true
-  safe-keeps s ns e = by _ _ (nodes-keep ns None (at_start s)) e
+  safe-keeps s ns e = by _ _ (nodes-keep ns None None (at_start s)) e
     where
-      by : (o p : Option Known) → Keeps o p → option_map_or (λ ks. true) o false ≡ true
-          → option_map_or (λ ks. true) p false ≡ true
+      by : (o p : Option After) → Keeps o p → option_map_or (λ a. true) o false ≡ true
+          → option_map_or (λ a. true) p false ≡ true
       by None p h e = absurd (false≢true e)
-      by (Some ks) p h e = rw h refl
+      by (Some a) p h e = rw h refl
 
   module _ (stops : List (List ℕ)) (set : List Template) where
     callee-keeps : (name : List ℕ) (c : Callee) → IsCallee base Error stops set table name c

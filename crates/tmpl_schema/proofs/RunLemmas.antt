@@ -2,7 +2,7 @@
 -- shapes that are computed.
 use Rattle.std.specs.Prelude.{◌++◌, ℤ, pos, not, Contains}
 use Rattle.std.specs.Ordering.{int_eq}
-use Rattle.std.proofs.Common.{inl, inr, rules, ◌≡◌, ◌-◌, ◌≤◌, ◌||◌, ℕ, zero, suc, nat_eq, Bool, true, false, List, [], ◌∷◌, Option, Some, None, Result, Ok, Err, IfSome, length, refl, sym, subst, if◌then◌else◌}
+use Rattle.std.proofs.Common.{inl, inr, rules, ◌≡◌, ◌-◌, ◌≤◌, ◌||◌, ℕ, zero, suc, nat_eq, Bool, true, false, List, [], ◌∷◌, Option, Some, None, Result, Ok, Err, IfSome, length, ap, refl, sym, subst, ◌∙◌, if◌then◌else◌}
 use Rattle.std.proofs.lemmas.Bool.{false≢true}
 use Rattle.std.proofs.lemmas.Bool.Decides.{Decides-int_eq}
 use Rattle.std.proofs.lemmas.Option.{cond_some, option_and_then_some}
@@ -26,11 +26,11 @@ use Rattle.tmpl_shape.specs.Shape.{Shape, nothings, texts, HasShape, Names}
 use Rattle.tmpl_schema.specs.Safe.{MayEnd}
 use Rattle.tmpl_shape.specs.computed.Means.{Means}
 use Rattle.tmpl_shape.specs.computed.Shapes.{Base, within, fill, Visit, visit_of}
-use Rattle.tmpl_schema.specs.computed.Check.{Known, State, Callee, handed, absent, Table, Checked, last_of, all_within, join_all, if_within, settle_known, settle_soon, leave_with}
+use Rattle.tmpl_schema.specs.computed.Check.{After, Known, State, Callee, handed, absent, past, Table, Checked, last_of, all_within, join_all, join_left, settle_known, settle_soon, leave_with, with_left}
 use Rattle.tmpl_schema.specs.computed.Check.{holds_loop, dot_in, in_body, in_other, after_choice, at_head, in_turn, turn_known, after_range, after_call, after_control, after_node, after_nodes}
 use Rattle.tmpl_schema.specs.declared.flow.FallThrough.{FallThrough}
 use Rattle.tmpl_schema.specs.declared.flow.FallThrough.TheVariants.{Both, Body, Other}
-use Rattle.tmpl_schema.specs.computed.Check.{after_parts, dot_after, dot_by, is_absent, diverges, any_diverges, fall_through, past_parts}
+use Rattle.tmpl_schema.specs.computed.Check.{after_parts, end_parts, dot_after, dot_by, is_absent, diverges, any_diverges, fall_through, past_parts}
 use Rattle.tmpl_schema.specs.computed.Check.{Origin, pipeline_origin, pipeline_shape, narrow, bound_shapes, at_start, is_safe}
 use Rattle.tmpl_schema.specs.computed.Safe.{IsAccepted, IsCallee, IsChecked}
 use Rattle.tmpl_loops.specs.Form.{Loop, Turn, stopped, turn_of}
@@ -39,9 +39,13 @@ use Rattle.tmpl_loops.proofs.CopyLemmas.{calls_copy}
 use Rattle.tmpl_schema.proofs.LoopLemmas.{found-loop}
 use Rattle.tmpl_shape.proofs.ShapeLemmas.{within-has}
 use Rattle.tmpl_schema.proofs.FieldLemmas.{Gives, Each, IsVisit, Visits, fill-has, visit-gives}
-use Rattle.tmpl_schema.proofs.VariableLemmas.{above-zero, HasKnown, Fits, place, known-length, last-known, last-last, within-known, if_within-some, joined-left, both-known, bound-known}
+use Rattle.tmpl_schema.proofs.VariableLemmas.{above-zero, HasKnown, Fits, place, known-length, last-known, last-last, within-known, joined-left, joined-right, both-known, bound-known}
 use Rattle.tmpl_schema.proofs.VariableLemmas.{pipeline-gives, pipeline-has, narrow-fits}
 use Rattle.tmpl_schema.proofs.OriginLemmas.{HasOrigin, at-root}
+
+mapped_some : {A B : Type 0} → (o : Option A) (t : A → B) (y : B) → option_map t o ≡ Some y → (x : A) × (o ≡ Some x) × (t x ≡ y)
+mapped_some None t y e = cc
+mapped_some (Some x) t y e = (x, refl, cc)
 
 -- what has an element is not empty
 elements-true : (v : Value) (e : Element) (es : List Element) → elements v ≡ Some (e ∷ es) → truth v ≡ true
@@ -98,50 +102,83 @@ module _ (base : Base) (N : Names) (means : Means base.defs N) (stops : List (Li
 module _ (base : Base) (N : Names) (means : Means base.defs N) (stops : List (List ℕ)) (top : Value) where
   -- ---- ends
 
-  -- at a break or continue the variables that were there at the head of the range are known
-  abbrev InLoop : Option Known → Environment → Type 0
-  InLoop None env = ⊥
-  InLoop (Some head) env = (HasKnown base N means top) head (last_of (length head) env)
+  -- at a break or continue the variables that were there at the head of the range are those with which it is left
+  abbrev InLoop : Option Known → Option Known → Environment → Type 0
+  InLoop (Some head) (Some ls) env = (HasKnown base N means top) ls (last_of (length head) env)
+  InLoop loop left env = ⊥
 
-  abbrev EndsSo : Option Known → Known → End → Environment → Type 0
-  EndsSo loop ks done env = (HasKnown base N means top) ks env
-  EndsSo loop ks (faulted f) env = MayEnd stops f.cause
-  EndsSo loop ks _ env = InLoop loop env
+  abbrev EndsSo : Option Known → After → End → Environment → Type 0
+  EndsSo loop a done env = (HasKnown base N means top) a.env env
+  EndsSo loop a (faulted f) env = MayEnd stops f.cause
+  EndsSo loop a _ env = InLoop loop a.left env
 
-  abbrev Ends : Option Known → Known → Run × End → Type 0
-  Ends loop ks q = EndsSo loop ks q.1 q.0.env
+  abbrev Ends : Option Known → After → Run × End → Type 0
+  Ends loop a q = EndsSo loop a q.1 q.0.env
 
-  spend-ends : (loop : Option Known) (ks : Known) (s : Setting) (line : ℕ) (go : Next) (r : Run) → ((left : ℕ) → Ends loop ks (go (record r { left = left })))
-      → Ends loop ks (spend s line go r)
-  spend-ends loop ks s line go r h = by (nat_eq r.left 0)
+  -- where a range is left is among what is joined with it
+  left-first : (loop left more all : Option Known) → join_left base left more ≡ Some all → (env : Environment) → InLoop loop left env → InLoop loop all env
+  left-first None left more all e env h = absurd h
+  left-first (Some head) None more all e env h = absurd h
+  left-first (Some head) (Some ks) None all e env h = let same : Some ks ≡ all = cc in subst (λ (x : Option Known). InLoop (Some head) x env) same h
+  left-first (Some head) (Some ks) (Some ls) all e env h =
+      let p = mapped_some (join_all base ks ls) (λ js. Some js) all e in
+      subst (λ (x : Option Known). InLoop (Some head) x env) p.2 ((joined-left base N means top) ks ls p.0 (last_of (length head) env) p.1 h)
+
+  left-second : (loop left more all : Option Known) → join_left base left more ≡ Some all → (env : Environment) → InLoop loop more env → InLoop loop all env
+  left-second None left more all e env h = absurd h
+  left-second (Some head) None more all e env h = let same : more ≡ all = cc in subst (λ (x : Option Known). InLoop (Some head) x env) same h
+  left-second (Some head) (Some ks) None all e env h = absurd h
+  left-second (Some head) (Some ks) (Some ls) all e env h =
+      let p = mapped_some (join_all base ks ls) (λ js. Some js) all e in
+      subst (λ (x : Option Known). InLoop (Some head) x env) p.2 ((joined-right base N means top) ks ls p.0 (last_of (length head) env) p.1 h)
+
+  -- what two parts come to
+  ends-of : (w : FallThrough) (rs : Known) (a b out : After) → end_parts base w rs a b ≡ Some out
+      → (after_parts base w rs a.env b.env ≡ Some out.env) × (join_left base a.left b.left ≡ Some out.left)
+  ends-of w rs a b out e =
+      option_and_then_some _ (after_parts base w rs a.env b.env) out e (λ ks isk rest.
+      let p = mapped_some (join_left base a.left b.left) (λ ls. record { env = ks; left = ls }) out rest in
+      (isk ∙ ap (λ (x : After). Some x.env) p.2, p.1 ∙ ap (λ (x : After). Some x.left) p.2))
+
+  spend-ends : (loop : Option Known) (a : After) (s : Setting) (line : ℕ) (go : Next) (r : Run) → ((left : ℕ) → Ends loop a (go (record r { left = left })))
+      → Ends loop a (spend s line go r)
+  spend-ends loop a s line go r h = by (nat_eq r.left 0)
     where
-      by : (b : Bool) → Ends loop ks (spend_if b s line go r)
+      by : (b : Bool) → Ends loop a (spend_if b s line go r)
       by true = tt
       by false = h (r.left - 1)
 
-  after-ends : (loop : Option Known) (middle ks : Known) (go : Next) (q : Run) (end : End)
-      → (end ≡ done → (HasKnown base N means top) middle q.env → Ends loop ks (go q)) → EndsSo loop middle end q.env → Ends loop ks (on_end end q go)
-  after-ends loop middle ks go q done h e = h refl e
-  after-ends loop middle ks go q (faulted f) h e = e
-  after-ends loop middle ks go q broke h e = e
-  after-ends loop middle ks go q continued h e = e
+  after-ends : (loop : Option Known) (middle out : After) (go : Next) (q : Run) (end : End) → (InLoop loop middle.left q.env → InLoop loop out.left q.env)
+      → (end ≡ done → (HasKnown base N means top) middle.env q.env → Ends loop out (go q)) → EndsSo loop middle end q.env → Ends loop out (on_end end q go)
+  after-ends loop middle out go q done kept h e = h refl e
+  after-ends loop middle out go q (faulted f) kept h e = e
+  after-ends loop middle out go q broke kept h e = kept e
+  after-ends loop middle out go q continued kept h e = kept e
 
   loop-length : (head : Known) (ks : Known) → holds_loop (Some head) ks ≡ true → length head ≤ length ks
   loop-length head ks h = search rules
 
+  -- .. also in a scope that is ended
+  in-scope : (head : Known) (left : Option Known) (env0 env : Environment) → length head ≤ length env0 → InLoop (Some head) left env
+      → InLoop (Some head) left (last_of (length env0) env)
+  in-scope head None env0 env few h = absurd h
+  in-scope head (Some ls) env0 env few h = rw ((last-last base N means top) (length head) (length env0) env few) h
+
   -- after a part whose variables last to its end
-  scope-ends : (loop : Option Known) (ks inner out : Known) (env0 : Environment) → (HasKnown base N means top) ks env0 → holds_loop loop ks ≡ true
-      → (end : End) (env : Environment) → (end ≡ done → (e : Environment) → (HasKnown base N means top) (last_of (length ks) inner) e → (HasKnown base N means top) out e)
+  scope-ends : (loop : Option Known) (ks : Known) (inner out : After) (env0 : Environment) → (HasKnown base N means top) ks env0 → holds_loop loop ks ≡ true
+      → (end : End) (env : Environment) → ((e : Environment) → InLoop loop inner.left e → InLoop loop out.left e)
+      → (end ≡ done → (e : Environment) → (HasKnown base N means top) (last_of (length ks) inner.env) e → (HasKnown base N means top) out.env e)
       → EndsSo loop inner end env → EndsSo loop out end (last_of (length env0) env)
-  scope-ends loop ks inner out env0 k holds done env f e =
-      f refl _ (subst (λ (n : ℕ). (HasKnown base N means top) (last_of (length ks) inner) (last_of n env)) ((known-length base N means top) ks env0 k) ((last-known base N means top) (length ks) inner env e))
-  scope-ends loop ks inner out env0 k holds (faulted c) env f e = e
-  scope-ends None ks inner out env0 k holds broke env f e = absurd e
-  scope-ends (Some head) ks inner out env0 k holds broke env f e =
-      rw ((last-last base N means top) (length head) (length env0) env (subst (λ (n : ℕ). length head ≤ n) ((known-length base N means top) ks env0 k) (loop-length head ks holds))) e
-  scope-ends None ks inner out env0 k holds continued env f e = absurd e
-  scope-ends (Some head) ks inner out env0 k holds continued env f e =
-      rw ((last-last base N means top) (length head) (length env0) env (subst (λ (n : ℕ). length head ≤ n) ((known-length base N means top) ks env0 k) (loop-length head ks holds))) e
+  scope-ends loop ks inner out env0 k holds done env kept f e =
+      f refl _ (subst (λ (n : ℕ). (HasKnown base N means top) (last_of (length ks) inner.env) (last_of n env)) ((known-length base N means top) ks env0 k)
+      ((last-known base N means top) (length ks) inner.env env e))
+  scope-ends loop ks inner out env0 k holds (faulted c) env kept f e = e
+  scope-ends None ks inner out env0 k holds broke env kept f e = absurd e
+  scope-ends None ks inner out env0 k holds continued env kept f e = absurd e
+  scope-ends (Some head) ks inner out env0 k holds broke env kept f e =
+      in-scope head out.left env0 env (subst (λ (n : ℕ). length head ≤ n) ((known-length base N means top) ks env0 k) (loop-length head ks holds)) (kept env e)
+  scope-ends (Some head) ks inner out env0 k holds continued env kept f e =
+      in-scope head out.left env0 env (subst (λ (n : ℕ). length head ≤ n) ((known-length base N means top) ks env0 k) (loop-length head ks holds)) (kept env e)
 
   -- ---- pipelines
 
@@ -163,7 +200,7 @@ module _ (base : Base) (N : Names) (means : Means base.defs N) (stops : List (Li
 
   -- what is computed of a part holds of it
   abbrev PartHas : Option Known → Checked → (Value → Next) → Type 0
-  PartHas loop f go = (k : State) (out : Known) → f k ≡ Some out → (d : Value) (r : Run) → (Fits base N means top) k d r.env → Ends loop out (go d r)
+  PartHas loop f go = (k : State) (out : After) → f k ≡ Some out → (d : Value) (r : Run) → (Fits base N means top) k d r.env → Ends loop out (go d r)
 
   abbrev dot_value : Control → Value → Value → Value
   dot_value control.With v d = v
@@ -203,38 +240,41 @@ module _ (base : Base) (N : Names) (means : Means base.defs N) (stops : List (Li
   other-known Other rs a b out joint body other never d r is =
       λ env h. let same : last_of (length rs) b ≡ out = cc in subst (λ (x : Known). (HasKnown base N means top) x env) same h
 
-  choice-ends : (w : FallThrough) (c : Control) (h : Header) (k : State) (loop : Option Known) (f g : Checked) (body other : Value → Next) (sh : Shape) (out : Known)
+  choice-ends : (w : FallThrough) (c : Control) (h : Header) (k : State) (loop : Option Known) (f g : Checked) (body other : Value → Next) (sh : Shape) (out : After)
       → after_choice base w c h k f g sh ≡ Some out → holds_loop loop k.env ≡ true → PartHas loop f body → PartHas loop g other → NeverPast w body other
       → (m : MissingKey) (d : Value) (r : Run) → (Fits base N means top) k d r.env → (v : Value) (made : Bool) → (commands_value ((place base N means top) m d r.env) h.pipeline None).result ≡ Ok v
       → HasShape N sh v
       → Ends loop out (scoped (length r.env) (one_of (truth v) (body (dot_value c v d)) (other d) (with_bound h.binding (without_key v) (record r { made_text = made }))))
   choice-ends w c h k loop f g body other sh out is holds in_f in_g never m d r fits v made value has =
       option_and_then_some _ (f (in_body base c h k sh)) out is (λ a isa rest.
-      option_and_then_some (after_parts base w k.env a) (g (in_other base h k sh)) out rest (λ b isb joint. by (truth v) refl a isa b isb joint))
+      option_and_then_some (end_parts base w k.env a) (g (in_other base h k sh)) out rest (λ b isb joint.
+      let p = ends-of w k.env a b out joint in by (truth v) refl a isa b isb p.0 p.1))
     where
-      by : (t : Bool) → truth v ≡ t → (a : Known) → f (in_body base c h k sh) ≡ Some a → (b : Known) → g (in_other base h k sh) ≡ Some b
-          → after_parts base w k.env a b ≡ Some out
+      by : (t : Bool) → truth v ≡ t → (a : After) → f (in_body base c h k sh) ≡ Some a → (b : After) → g (in_other base h k sh) ≡ Some b
+          → after_parts base w k.env a.env b.env ≡ Some out.env → join_left base a.left b.left ≡ Some out.left
           → Ends loop out (scoped (length r.env) (one_of t (body (dot_value c v d)) (other d) (with_bound h.binding (without_key v) (record r { made_text = made }))))
-      by true t a isa b isb joint =
+      by true t a isa b isb joint left =
           let q : Run = with_bound h.binding (without_key v) (record r { made_text = made }) in
           let n = (narrow-fits base N means top) true m h.pipeline k d r.env v fits value t in
           let full = (fill-has base N means) sh v has t in
           let o = pipeline_origin k h.pipeline in
           let from = (pipeline-has base N means top) m h.pipeline k d r.env v fits value in
           let x = body (dot_value c v d) q in
-          scope-ends loop k.env a out r.env fits.1 holds x.1 x.0.env (body-known w k.env a b out joint body other never (dot_value c v d) q)
+          scope-ends loop k.env a out r.env fits.1 holds x.1 x.0.env (left-first loop a.left b.left out.left left)
+          (body-known w k.env a.env b.env out.env joint body other never (dot_value c v d) q)
           (in_f (in_body base c h k sh) a isa (dot_value c v d) q (
             dot-has c (fill base sh) (narrow base true h.pipeline k).dot v d full n.0,
             (bound-known base N means top) h.binding nothings (fill base sh) o (without_key v) tt full from (narrow base true h.pipeline k).env r.env n.1,
             dot-from c o (narrow base true h.pipeline k).from v d from n.2,
           ))
-      by false t a isa b isb joint =
+      by false t a isa b isb joint left =
           let q : Run = with_bound h.binding (without_key v) (record r { made_text = made }) in
           let n = (narrow-fits base N means top) false m h.pipeline k d r.env v fits value t in
           let o = pipeline_origin k h.pipeline in
           let from = (pipeline-has base N means top) m h.pipeline k d r.env v fits value in
           let x = other d q in
-          scope-ends loop k.env b out r.env fits.1 holds x.1 x.0.env (other-known w k.env a b out joint body other never d q)
+          scope-ends loop k.env b out r.env fits.1 holds x.1 x.0.env (left-second loop a.left b.left out.left left)
+          (other-known w k.env a.env b.env out.env joint body other never d q)
           (in_g (in_other base h k sh) b isb d q
           (n.0, (bound-known base N means top) h.binding nothings sh o (without_key v) tt has from (narrow base false h.pipeline k).env r.env n.1, n.2))
 
@@ -268,17 +308,35 @@ module _ (base : Base) (N : Names) (means : Means base.defs N) (stops : List (Li
   TurnEnds head (faulted f) env = MayEnd stops f.cause
   TurnEnds head _ env = (HasKnown base N means top) head env
 
-  turn-end : (head inner : Known) (env0 : Environment) → (HasKnown base N means top) head env0 → all_within base (last_of (length head) inner) head ≡ true → (end : End) (env : Environment)
-      → EndsSo (Some head) inner end env → TurnEnds head end (last_of (length env0) env)
-  turn-end head inner env0 k w done env e =
-      (within-known base N means top) (last_of (length head) inner) head _ w
-      (subst (λ (n : ℕ). (HasKnown base N means top) (last_of (length head) inner) (last_of n env)) ((known-length base N means top) head env0 k) ((last-known base N means top) (length head) inner env e))
-  turn-end head inner env0 k w (faulted f) env e = e
-  turn-end head inner env0 k w broke env e = subst (λ (n : ℕ). (HasKnown base N means top) head (last_of n env)) ((known-length base N means top) head env0 k) e
-  turn-end head inner env0 k w continued env e = subst (λ (n : ℕ). (HasKnown base N means top) head (last_of n env)) ((known-length base N means top) head env0 k) e
+  -- the variables after a turn are those where it ends, and where it is left
+  ended : (ks : Known) (left : Option Known) (all : Known) → with_left base ks left ≡ Some all → (env : Environment) → (HasKnown base N means top) ks env → (HasKnown base N means top) all env
+  ended ks None all e env h = let same : ks ≡ all = cc in subst (λ (x : Known). (HasKnown base N means top) x env) same h
+  ended ks (Some ls) all e env h = (joined-left base N means top) ks ls all env e h
 
-  module _ (s : Setting) (line : ℕ) (h : Header) (loop : Option Known) (v : Visit) (head inner : Known) (body : Value → Next)
-      (w : all_within base (last_of (length head) inner) head ≡ true)
+  left-so : (head ks : Known) (left : Option Known) (all : Known) → with_left base ks left ≡ Some all → (env : Environment) → InLoop (Some head) left env
+      → (HasKnown base N means top) all (last_of (length head) env)
+  left-so head ks None all e env h = absurd h
+  left-so head ks (Some ls) all e env h = (joined-right base N means top) ks ls all (last_of (length head) env) e h
+
+  turn-end : (head : Known) (inner : After) (all : Known) (env0 : Environment) → (HasKnown base N means top) head env0
+      → with_left base (last_of (length head) inner.env) inner.left ≡ Some all → all_within base all head ≡ true → (end : End) (env : Environment)
+      → EndsSo (Some head) inner end env → TurnEnds head end (last_of (length env0) env)
+  turn-end head inner all env0 k is w end env = by end
+    where
+      here : (HasKnown base N means top) all (last_of (length head) env) → (HasKnown base N means top) head (last_of (length env0) env)
+      here h =
+          subst (λ (n : ℕ). (HasKnown base N means top) head (last_of n env)) ((known-length base N means top) head env0 k)
+          ((within-known base N means top) all head (last_of (length head) env) w h)
+
+      by : (end : End) → EndsSo (Some head) inner end env → TurnEnds head end (last_of (length env0) env)
+      by done e =
+          here (ended (last_of (length head) inner.env) inner.left all is (last_of (length head) env) ((last-known base N means top) (length head) inner.env env e))
+      by (faulted f) e = e
+      by broke e = here (left-so head (last_of (length head) inner.env) inner.left all is env e)
+      by continued e = here (left-so head (last_of (length head) inner.env) inner.left all is env e)
+
+  module _ (s : Setting) (line : ℕ) (h : Header) (loop : Option Known) (v : Visit) (head : Known) (inner : After) (all : Known) (body : Value → Next)
+      (is : with_left base (last_of (length head) inner.env) inner.left ≡ Some all) (w : all_within base all head ≡ true)
       (in_body_so : (e : Element) (r : Run) → (IsVisit base N means) v e → (HasKnown base N means top) head r.env → Ends (Some head) inner (body e.1 (with_bound h.binding e r))) where
     turn-ends : (e : Element) (r : Run) → (IsVisit base N means) v e → (HasKnown base N means top) head r.env → TurnEnds head (turn s line h.binding body e r).1 (turn s line h.binding body e r).0.env
     turn-ends e r i k = by (nat_eq r.left 0)
@@ -288,15 +346,15 @@ module _ (base : Base) (N : Names) (means : Means base.defs N) (stops : List (Li
         by true = tt
         by false =
             let q : Run = record r { left = r.left - 1 } in
-            let x = body e.1 (with_bound h.binding e q) in turn-end head inner r.env k w x.1 x.0.env (in_body_so e q i k)
+            let x = body e.1 (with_bound h.binding e q) in turn-end head inner all r.env k is w x.1 x.0.env (in_body_so e q i k)
 
-    turns-end : (es : List Element) (r : Run) → (Each base N means) ((IsVisit base N means) v) es → (HasKnown base N means top) head r.env → Ends loop head (turns s line h.binding body es r)
+    turns-end : (es : List Element) (r : Run) → (Each base N means) ((IsVisit base N means) v) es → (HasKnown base N means top) head r.env → Ends loop (past head) (turns s line h.binding body es r)
     turns-end [] r i k = k
     turns-end (e ∷ es) r i k =
         let x = turn s line h.binding body e r in by x.1 x.0 (turn-ends e r i.0 k) (λ q. turns-end es q i.1)
       where
-        by : (end : End) (q : Run) → TurnEnds head end q.env → ((q : Run) → (HasKnown base N means top) head q.env → Ends loop head (turns s line h.binding body es q))
-            → Ends loop head (on_turn end q (turns s line h.binding body es))
+        by : (end : End) (q : Run) → TurnEnds head end q.env → ((q : Run) → (HasKnown base N means top) head q.env → Ends loop (past head) (turns s line h.binding body es q))
+            → Ends loop (past head) (on_turn end q (turns s line h.binding body es))
         by done q t more = more q t
         by (faulted f) q t more = t
         by broke q t more = t
@@ -331,47 +389,46 @@ module _ (base : Base) (N : Names) (means : Means base.defs N) (stops : List (Li
   past-other Other rs a b out joint body other never d r is = absurd never
 
   over-ends : (w : FallThrough) (s : Setting) (line : ℕ) (h : Header) (k : State) (loop : Option Known) (f : Option Known → Checked) (g : Checked) (body other : Value → Next) (v : Visit)
-      (out : Known) → after_range base w h k f g v ≡ Some out → holds_loop loop k.env ≡ true → ((l : Option Known) → PartHas l (f l) body) → PartHas loop g other
+      (out : After) → after_range base w h k f g v ≡ Some out → holds_loop loop k.env ≡ true → ((l : Option Known) → PartHas l (f l) body) → PartHas loop g other
       → NeverPastIn control.Range w body other → (d : Value) (r : Run) → (Fits base N means top) k d r.env → (made : Bool) (o : Option (List Element)) → (Visits base N means) (Some v) o → Begins h k r.env o
       → Ends loop out (scoped (length r.env) (over s line h.binding body (other d) o (record r { made_text = made })))
   over-ends w s line h k loop f g body other v out is holds in_f in_g never d r fits made o visits begins =
-      option_and_then_some _ (settle_soon base (turn_known h v f) (at_head base h k)) out is (λ head ish rest.
-      option_and_then_some (after_parts base w k.env head) (g k) out rest (λ b isb joint.
-      by o visits begins head b isb (past-turns w k.env head b out joint body other never) (past-other w k.env head b out joint body other never)
-      (soon-so (turn_known h v f) (at_head base h k) head ish)))
+      option_and_then_some _ (settle_soon base (turn_known base h v f) (at_head base h k)) out is (λ head ish rest.
+      option_and_then_some (end_parts base w k.env (past head)) (g k) out rest (λ b isb joint.
+      let p = ends-of w k.env (past head) b out joint in
+      by o visits begins head b isb (past-turns w k.env head b.env out.env p.0 body other never) (past-other w k.env head b.env out.env p.0 body other never) p.1
+      (soon-so (turn_known base h v f) (at_head base h k) head ish)))
     where
       r1 : Run
       r1 = record r { made_text = made }
 
-      turning : (head : Known) (inner : Known) → f (Some head) (in_turn h v head) ≡ Some inner → all_within base (last_of (length head) inner) head ≡ true
-          → (es : List Element) → (Each base N means) ((IsVisit base N means) v) es → (HasKnown base N means top) head r.env → Ends loop head (turns s line h.binding body es r1)
-      turning head inner isi w es each k1 =
-          turns-end s line h loop v head inner body w
+      turning : (head : Known) (inner : After) (all : Known) → f (Some head) (in_turn h v head) ≡ Some inner
+          → with_left base (last_of (length head) inner.env) inner.left ≡ Some all → all_within base all head ≡ true
+          → (es : List Element) → (Each base N means) ((IsVisit base N means) v) es → (HasKnown base N means top) head r.env → Ends loop (past head) (turns s line h.binding body es r1)
+      turning head inner all isi is_all w es each k1 =
+          turns-end s line h loop v head inner all body is_all w
           (λ e q i kq. in_f (Some head) (in_turn h v head) inner isi e.1 (with_bound h.binding e q) (i.1, (bound-known base N means top) h.binding v.key v.element None e i.0 i.1 tt head q.env kq, tt))
           es r1 each k1
 
-      by : (o : Option (List Element)) → (Visits base N means) (Some v) o → Begins h k r.env o → (head b : Known) → g k ≡ Some b
-          → ((env : Environment) → (HasKnown base N means top) (last_of (length k.env) head) env → (HasKnown base N means top) out env)
-          → ((d : Value) (r : Run) → (other d r).1 ≡ done → (env : Environment) → (HasKnown base N means top) (last_of (length k.env) b) env → (HasKnown base N means top) out env)
-          → IsHead (turn_known h v f) (at_head base h k) head
+      by : (o : Option (List Element)) → (Visits base N means) (Some v) o → Begins h k r.env o → (head : Known) (b : After) → g k ≡ Some b
+          → ((env : Environment) → (HasKnown base N means top) (last_of (length k.env) head) env → (HasKnown base N means top) out.env env)
+          → ((d : Value) (r : Run) → (other d r).1 ≡ done → (env : Environment) → (HasKnown base N means top) (last_of (length k.env) b.env) env
+          → (HasKnown base N means top) out.env env)
+          → join_left base None b.left ≡ Some out.left → IsHead (turn_known base h v f) (at_head base h k) head
           → Ends loop out (scoped (length r.env) (over s line h.binding body (other d) o r1))
-      by None visits begins head b isb left right set = absurd visits
-      by (Some []) visits begins head b isb left right set =
-          let x = other d r1 in scope-ends loop k.env b out r.env fits.1 holds x.1 x.0.env (right d r1) (in_g k b isb d r1 fits)
-      by (Some (e ∷ es)) visits begins head b isb left right set =
+      by None visits begins head b isb turned passed left set = absurd visits
+      by (Some []) visits begins head b isb turned passed left set =
+          let x = other d r1 in
+          scope-ends loop k.env b out r.env fits.1 holds x.1 x.0.env (left-second loop None b.left out.left left) (passed d r1) (in_g k b isb d r1 fits)
+      by (Some (e ∷ es)) visits begins head b isb turned passed left set =
           let x = turns s line h.binding body (e ∷ es) r1 in
-          let inner = mapped (f (Some head) (in_turn h v head)) (last_of (length head)) set.1 set.2 in
-          scope-ends loop k.env head out r.env fits.1 holds x.1 x.0.env (λ e. left)
-          (turning head inner.0 inner.1 (subst (λ (i : Known). all_within base i head ≡ true) (sym inner.2) set.3) (e ∷ es) visits
-          (set.0 r.env begins))
-        where
-          mapped : (o : Option Known) (t : Known → Known) (y : Known) → option_map t o ≡ Some y → (x : Known) × (o ≡ Some x) × (t x ≡ y)
-          mapped None t y e = cc
-          mapped (Some x) t y e = (x, refl, cc)
+          option_and_then_some (λ (a : After). with_left base (last_of (length head) a.env) a.left) (f (Some head) (in_turn h v head)) set.1 set.2 (λ inner isi is_all.
+          scope-ends loop k.env (past head) out r.env fits.1 holds x.1 x.0.env (left-first loop None b.left out.left left) (λ e. turned)
+          (turning head inner set.1 isi is_all set.3 (e ∷ es) visits (set.0 r.env begins)))
 
   -- a control in its scope
   control-ends : (w : FallThrough) (s : Setting) (line : ℕ) (c : Control) (h : Header) (k : State) (loop : Option Known) (f : Option Known → Checked) (g : Checked) (body other : Value → Next)
-      (sh : Shape) (out : Known) → after_control base w c loop h k f g sh ≡ Some out → holds_loop loop k.env ≡ true → ((l : Option Known) → PartHas l (f l) body)
+      (sh : Shape) (out : After) → after_control base w c loop h k f g sh ≡ Some out → holds_loop loop k.env ≡ true → ((l : Option Known) → PartHas l (f l) body)
       → PartHas loop g other → NeverPastIn c w body other → (d : Value) (r : Run) → (Fits base N means top) k d r.env → (v : Value) (made : Bool)
       → (commands_value ((place base N means top) s.rules.missing_key d r.env) h.pipeline None).result ≡ Ok v → HasShape N sh v
       → Ends loop out (scoped (length r.env) (controlled s line c h.binding d body (other d) v (record r { made_text = made })))
@@ -385,17 +442,13 @@ module _ (base : Base) (N : Names) (means : Means base.defs N) (stops : List (Li
       (subst (λ (o : Option Visit). (Visits base N means) o (elements_visited h.binding v)) isv ((visit-gives base N means) h.binding sh v has))
       (begins-so h k r.env v (λ full. ((narrow-fits base N means top) true s.rules.missing_key h.pipeline k d r.env v fits value full).1)))
 
-  mapped_some : {A : Type 0} → (o : Option A) (t : A → Known) (y : Known) → option_map t o ≡ Some y → (x : A) × (o ≡ Some x) × (t x ≡ y)
-  mapped_some None t y e = cc
-  mapped_some (Some x) t y e = (x, refl, cc)
-
-  was_open : (b : Bool) (o : Option Known) (y : Known) → (if b then o else None) ≡ Some y → (b ≡ true) × (o ≡ Some y)
+  was_open : (b : Bool) (o : Option After) (y : After) → (if b then o else None) ≡ Some y → (b ≡ true) × (o ≡ Some y)
   was_open true o y e = (refl, e)
   was_open false o y e = cc
 
   -- ---- calls
 
-  quiet-ends : (loop : Option Known) (ks : Known) (env0 : Environment) → (HasKnown base N means top) ks env0 → (end : End) (env : Environment) → env ≡ env0 → (IsQuiet base N means stops) end → EndsSo loop ks end env
+  quiet-ends : (loop : Option Known) (ks : Known) (env0 : Environment) → (HasKnown base N means top) ks env0 → (end : End) (env : Environment) → env ≡ env0 → (IsQuiet base N means stops) end → EndsSo loop (past ks) end env
   quiet-ends loop ks env0 k done env same q = subst (λ (e : Environment). (HasKnown base N means top) ks e) (sym same) k
   quiet-ends loop ks env0 k (faulted f) env same q = q
   quiet-ends loop ks env0 k _ env same q = absurd q
@@ -404,59 +457,55 @@ module _ (base : Base) (N : Names) (means : Means base.defs N) (stops : List (Li
 
   module _ (s : Setting) (table : Table) (calls : (CallsHave base N means stops) table s.calls) where
     shown-ends : (h : Header) (k : State) (loop : Option Known) (sh : Shape) (o : Origin) (v : Value) (r : Run) → (HasKnown base N means top) k.env r.env → HasShape N sh v
-        → HasOrigin top o v → Ends loop (bound_shapes h.binding nothings sh o k.env) (show h.binding v r)
+        → HasOrigin top o v → Ends loop (past (bound_shapes h.binding nothings sh o k.env)) (show h.binding v r)
     shown-ends h k loop sh o v r known has from = by h.binding
       where
-        by : (b : Binding) → Ends loop (bound_shapes b nothings sh o k.env) (show b v r)
+        by : (b : Binding) → Ends loop (past (bound_shapes b nothings sh o k.env)) (show b v r)
         by unbound = known
         by (declare name) = (bound-known base N means top) (declare name) nothings sh o (without_key v) tt has from k.env r.env known
         by (assign name) = (bound-known base N means top) (assign name) nothings sh o (without_key v) tt has from k.env r.env known
         by (declare_pair key name) = (bound-known base N means top) (declare_pair key name) nothings sh o (without_key v) tt has from k.env r.env known
 
-    left-ends : (loop : Option Known) (ks out : Known) (env : Environment) → leave_with base ks loop ≡ Some out → (HasKnown base N means top) ks env → InLoop loop env
+    left-ends : (loop : Option Known) (ks : Known) (out : After) (env : Environment) → leave_with ks loop ≡ Some out → (HasKnown base N means top) ks env → InLoop loop out.left env
     left-ends None ks out env e k = cc
-    left-ends (Some head) ks out env e k = by (if_within base (last_of (length head) ks) head) refl e
-      where
-        by : (o : Option Known) → if_within base (last_of (length head) ks) head ≡ o → option_map (λ u. ks) o ≡ Some out → (HasKnown base N means top) head (last_of (length head) env)
-        by None is e = cc
-        by (Some x) is e =
-            (within-known base N means top) (last_of (length head) ks) head (last_of (length head) env) ((if_within-some base N means top) (last_of (length head) ks) head x is).0
-            ((last-known base N means top) (length head) ks env k)
+    left-ends (Some head) ks out env e k =
+        let same : record { env = ks; left = Some (last_of (length head) ks) } ≡ out = cc in
+        subst (λ (x : After). InLoop (Some head) x.left env) same ((last-known base N means top) (length head) ks env k)
 
     handing-ends : (line : ℕ) (given : Option Pipeline) (k : State) (loop : Option Known) (t sh : Shape) (d : Value) (go : Value → Next) (r : Run) → (Fits base N means top) k d r.env
         → option_map_or (pipeline_shape base s.rules.missing_key k) given (Some nothings) ≡ Some sh → within base sh t ≡ true
-        → ((v : Value) → HasShape N t v → (r : Run) → ((go v r).0.env ≡ r.env) × (IsQuiet base N means stops) (go v r).1) → Ends loop k.env (handing s line given d go r)
+        → ((v : Value) → HasShape N t v → (r : Run) → ((go v r).0.env ≡ r.env) × (IsQuiet base N means stops) (go v r).1) → Ends loop (past k.env) (handing s line given d go r)
     handing-ends line None k loop t sh d go r fits e w h =
         let same : nothings ≡ sh = cc in
         let x = h nothing ((within-has base N means) sh t nothing w (subst (λ (i : Shape). HasShape N i nothing) same tt)) r in
         quiet-ends loop k.env r.env fits.1 (go nothing r).1 (go nothing r).0.env x.0 x.1
     handing-ends line (Some p) k loop t sh d go r fits e w h =
-        pipeline-all (Ends loop k.env) s line p d go k sh r fits e (λ v made value has.
+        pipeline-all (Ends loop (past k.env)) s line p d go k sh r fits e (λ v made value has.
         let q : Run = record r { made_text = made } in
         let x = h v ((within-has base N means) sh t v w has) q in quiet-ends loop k.env r.env fits.1 (go v q).1 (go v q).0.env x.0 x.1)
 
     handed-ends : (line : ℕ) (given : Option Pipeline) (k : State) (loop : Option Known) (t sh : Shape) (d : Value) (r : Run) → (Fits base N means top) k d r.env
         → option_map_or (pipeline_shape base s.rules.missing_key k) given (Some nothings) ≡ Some sh → within base sh t ≡ true
-        → (x : Result (Value → Next) Cause) → (CallHas base N means stops) t x → Ends loop k.env (with_value s line x (handing s line given d) r)
+        → (x : Result (Value → Next) Cause) → (CallHas base N means stops) t x → Ends loop (past k.env) (with_value s line x (handing s line given d) r)
     handed-ends line given k loop t sh d r fits issh w (Ok go) h = handing-ends line given k loop t sh d go r fits issh w h
     handed-ends line given k loop t sh d r fits issh w (Err cause) h = h
 
     absent-ends : (line : ℕ) (given : Option Pipeline) (k : State) (loop : Option Known) (d : Value) (r : Run)
-        → (x : Result (Value → Next) Cause) → (CalleeHas base N means stops) absent x → Ends loop k.env (with_value s line x (handing s line given d) r)
+        → (x : Result (Value → Next) Cause) → (CalleeHas base N means stops) absent x → Ends loop (past k.env) (with_value s line x (handing s line given d) r)
     absent-ends line given k loop d r (Ok go) h = absurd h
     absent-ends line given k loop d r (Err cause) h = h
 
-    callee-ends : (line : ℕ) (name : List ℕ) (given : Option Pipeline) (k : State) (loop : Option Known) (out : Known) (d : Value) (r : Run)
+    callee-ends : (line : ℕ) (name : List ℕ) (given : Option Pipeline) (k : State) (loop : Option Known) (out : After) (d : Value) (r : Run)
         → (Fits base N means top) k d r.env → (c : Callee) → (CalleeHas base N means stops) c (s.calls name)
         → after_call base c k.env (option_map_or (pipeline_shape base s.rules.missing_key k) given (Some nothings)) ≡ Some out
         → Ends loop out (with_value s line (s.calls name) (handing s line given d) r)
     callee-ends line name given k loop out d r fits absent h e =
-        let same : k.env ≡ out = cc in
-        subst (λ (x : Known). Ends loop x (with_value s line (s.calls name) (handing s line given d) r)) same (absent-ends line given k loop d r (s.calls name) h)
+        let same : past k.env ≡ out = cc in
+        subst (λ (x : After). Ends loop x (with_value s line (s.calls name) (handing s line given d) r)) same (absent-ends line given k loop d r (s.calls name) h)
     callee-ends line name given k loop out d r fits (handed t) h e =
         option_and_then_some _ (option_map_or (pipeline_shape base s.rules.missing_key k) given (Some nothings)) out e (λ sh issh last.
-        let w = cond_some (within base sh t) k.env out last in
-        subst (λ (x : Known). Ends loop x (with_value s line (s.calls name) (handing s line given d) r)) w.1
+        let w = cond_some (within base sh t) (past k.env) out last in
+        subst (λ (x : After). Ends loop x (with_value s line (s.calls name) (handing s line given d) r)) w.1
         (handed-ends line given k loop t sh d r fits issh w.0 (s.calls name) h))
 
     template-ends : (line : ℕ) (name : List ℕ) (given : Option Pipeline) (loop : Option Known)
@@ -567,7 +616,7 @@ module _ (base : Base) (N : Names) (means : Means base.defs N) (stops : List (Li
         by Other false e never is = ((narrow-fits base N means top) false s.rules.missing_key h.pipeline k d r.env v fits value e).0
 
     -- .. and after each node
-    step-dot : (n : NodeKind) (line : ℕ) (loop : Option Known) (k : State) (out : Known) → after_node base s.rules.missing_key table loop k n ≡ Some out
+    step-dot : (n : NodeKind) (line : ℕ) (loop : Option Known) (k : State) (out : After) → after_node base s.rules.missing_key table loop k n ≡ Some out
         → (d : Value) (r : Run) → (Fits base N means top) k d r.env → (stepped s line n d r).1 ≡ done → HasShape N (dot_after base table k n) d
     step-dot (text bytes) line loop k out e d r fits is = fits.0
     step-dot (action h) line loop k out e d r fits is = fits.0
@@ -592,60 +641,74 @@ module _ (base : Base) (N : Names) (means : Means base.defs N) (stops : List (Li
         by control.With v made value is =
             choice-dot (fall_through table body other) control.With h k (meanings s body) (meanings s other) (never-past body other) d r fits v made value is
 
+    left-kept : (ns : Nodes) (loop left : Option Known) (k : State) (out : After) → after_nodes base s.rules.missing_key table loop left k ns ≡ Some out
+        → (env : Environment) → InLoop loop left env → InLoop loop out.left env
+    left-kept tree.none loop left k out is env h =
+        let same : record { env = k.env; left = left } ≡ out = cc in subst (λ (x : After). InLoop loop x.left env) same h
+    left-kept (tree.then line n ns) loop left k out is env h =
+        option_and_then_some _ (after_node base s.rules.missing_key table loop k n) out is (λ middle ism rest.
+        option_and_then_some _ (join_left base left middle.left) out rest (λ all isa more.
+        left-kept ns loop all (record k { dot = dot_after base table k n; env = middle.env }) out more env (left-first loop left middle.left all isa env h)))
+
     mutual
       stepped-ends : (n : NodeKind) (line : ℕ) (loop : Option Known) → PartHas loop (λ k. after_node base s.rules.missing_key table loop k n) (stepped s line n)
-      stepped-ends (text bytes) line loop k out is d r fits = let same : k.env ≡ out = cc in subst (λ (x : Known). (HasKnown base N means top) x r.env) same fits.1
+      stepped-ends (text bytes) line loop k out is d r fits =
+          let same : past k.env ≡ out = cc in subst (λ (x : After). (HasKnown base N means top) x.env r.env) same fits.1
       stepped-ends (action h) line loop k out is d r fits =
           let o = pipeline_origin k h.pipeline in
-          let p = mapped_some (pipeline_shape base s.rules.missing_key k h.pipeline) (λ sh. bound_shapes h.binding nothings sh o k.env) out is in
-          subst (λ (x : Known). Ends loop x (with_pipeline s line h.pipeline d (show h.binding) r)) p.2
-          (pipeline-all (Ends loop (bound_shapes h.binding nothings p.0 o k.env)) s line h.pipeline d (show h.binding) k p.0 r fits p.1
+          let p = mapped_some (pipeline_shape base s.rules.missing_key k h.pipeline) (λ sh. past (bound_shapes h.binding nothings sh o k.env)) out is in
+          subst (λ (x : After). Ends loop x (with_pipeline s line h.pipeline d (show h.binding) r)) p.2
+          (pipeline-all (Ends loop (past (bound_shapes h.binding nothings p.0 o k.env))) s line h.pipeline d (show h.binding) k p.0 r fits p.1
           (λ v made value has. shown-ends h k loop p.0 o v (record r { made_text = made }) fits.1 has
           ((pipeline-has base N means top) s.rules.missing_key h.pipeline k d r.env v fits value)))
       stepped-ends (control_node c h body other) line loop k out is d r fits =
           let m = s.rules.missing_key in
-          let f : Option Known → Checked = λ l u. after_nodes base m table l u body in
-          let g : Checked = λ u. after_nodes base m table loop u other in
+          let f : Option Known → Checked = λ l u. after_nodes base m table l None u body in
+          let g : Checked = λ u. after_nodes base m table loop None u other in
           let p = was_open (holds_loop loop k.env) _ out is in
           let w = past_parts c table body other in
           option_and_then_some (after_control base w c loop h k f g) (pipeline_shape base m k h.pipeline) out p.1 (λ sh issh rest.
           pipeline-all (λ x. Ends loop out (scoped (length r.env) x)) s line h.pipeline d
           (controlled s line c h.binding d (meanings s body) (meanings s other d)) k sh r fits issh
-          (control-ends w s line c h k loop f g (meanings s body) (meanings s other) sh out rest p.0 (λ l. nodes-end body l) (nodes-end other loop)
+          (control-ends w s line c h k loop f g (meanings s body) (meanings s other) sh out rest p.0 (λ l. nodes-end body l None) (nodes-end other loop None)
           (never-past-in c body other) d r fits))
       stepped-ends break_node line loop k out is d r fits = left-ends loop k.env out r.env is fits.1
       stepped-ends continue_node line loop k out is d r fits = left-ends loop k.env out r.env is fits.1
       stepped-ends (template_node name given) line loop k out is d r fits = template-ends line name given loop k out is d r fits
 
-      pub nodes-end : (ns : Nodes) (loop : Option Known) → PartHas loop (λ k. after_nodes base s.rules.missing_key table loop k ns) (meanings s ns)
-      nodes-end tree.none loop k out is d r fits = let same : k.env ≡ out = cc in subst (λ (x : Known). (HasKnown base N means top) x r.env) same fits.1
-      nodes-end (tree.then line n ns) loop k out is d r fits =
+      pub nodes-end : (ns : Nodes) (loop left : Option Known) → PartHas loop (λ k. after_nodes base s.rules.missing_key table loop left k ns) (meanings s ns)
+      nodes-end tree.none loop left k out is d r fits =
+          let same : record { env = k.env; left = left } ≡ out = cc in subst (λ (x : After). (HasKnown base N means top) x.env r.env) same fits.1
+      nodes-end (tree.then line n ns) loop left k out is d r fits =
           option_and_then_some _ (after_node base s.rules.missing_key table loop k n) out is (λ middle ism rest.
+          option_and_then_some _ (join_left base left middle.left) out rest (λ all isa more.
           let x = spend s line (stepped s line n d) r in
+          let u : State = record k { dot = dot_after base table k n; env = middle.env } in
           let dot : x.1 ≡ done → HasShape N (dot_after base table k n) d =
           spend-past (HasShape N (dot_after base table k n) d) line (stepped s line n d) r (λ left. step-dot n line loop k middle ism d (record r { left = left }) fits) in
           after-ends loop middle out (meanings s ns d) x.0 x.1
-          (λ is known. nodes-end ns loop (record k { dot = dot_after base table k n; env = middle }) out rest d x.0 (dot is, known, fits.2))
-          (spend-ends loop middle s line (stepped s line n d) r (λ left. stepped-ends n line loop k middle ism d (record r { left = left }) fits)))
+          (λ h. left-kept ns loop all u out more x.0.env (left-second loop left middle.left all isa x.0.env h))
+          (λ is known. nodes-end ns loop all u out more d x.0 (dot is, known, fits.2))
+          (spend-ends loop middle s line (stepped s line n d) r (λ left. stepped-ends n line loop k middle ism d (record r { left = left }) fits))))
 
-  left-quiet : (ks : Known) (end : End) (env : Environment) → EndsSo None ks end env → (IsQuiet base N means stops) (left_by end)
-  left-quiet ks done env e = tt
-  left-quiet ks (faulted f) env e = e
-  left-quiet ks _ env e = absurd e
+  left-quiet : (a : After) (end : End) (env : Environment) → EndsSo None a end env → (IsQuiet base N means stops) (left_by end)
+  left-quiet a done env e = tt
+  left-quiet a (faulted f) env e = e
+  left-quiet a _ env e = absurd e
 
-  pub quiet-fault : (ks : Known) (end : End) (env : Environment) → EndsSo None ks end env → IfSome (fault_of end) (λ f. MayEnd stops f.cause)
-  quiet-fault ks (faulted f) env e = e
-  quiet-fault ks _ env e = tt
+  pub quiet-fault : (a : After) (end : End) (env : Environment) → EndsSo None a end env → IfSome (fault_of end) (λ f. MayEnd stops f.cause)
+  quiet-fault a (faulted f) env e = e
+  quiet-fault a _ env e = tt
 
 module _ (base : Base) (N : Names) (means : Means base.defs N) (stops : List (List ℕ)) where
   -- ---- calls of a set
 
   pub safe-some : (m : MissingKey) (table : Table) (sh : Shape) (ns : Nodes) → is_safe base m table sh ns ≡ true
-      → (out : Known) × (after_nodes base m table None (at_start sh) ns ≡ Some out)
-  safe-some m table sh ns e = by (after_nodes base m table None (at_start sh) ns) refl e
+      → (out : After) × (after_nodes base m table None None (at_start sh) ns ≡ Some out)
+  safe-some m table sh ns e = by (after_nodes base m table None None (at_start sh) ns) refl e
     where
-      by : (o : Option Known) → after_nodes base m table None (at_start sh) ns ≡ o → option_map_or (λ ks. true) o false ≡ true
-          → (out : Known) × (after_nodes base m table None (at_start sh) ns ≡ Some out)
+      by : (o : Option After) → after_nodes base m table None None (at_start sh) ns ≡ o → option_map_or (λ a. true) o false ≡ true
+          → (out : After) × (after_nodes base m table None None (at_start sh) ns ≡ Some out)
       by None is e = absurd (false≢true e)
       by (Some out) is e = (out, is)
 
@@ -671,7 +734,7 @@ module _ (base : Base) (N : Names) (means : Means base.defs N) (stops : List (Li
                 (λ v has r.
                 let q : Run = record r { env = ([], v) ∷ [] } in
                 let y = meanings s x.0.nodes v q in
-                (refl, left-quiet base N means stops v p.0 y.1 y.0.env (nodes-end base N means stops v s table inner x.0.nodes None (at_start sh) p.0 p.1 v q (has, (refl, has, tt, at-root v), at-root v))))
+                (refl, left-quiet base N means stops v p.0 y.1 y.0.env (nodes-end base N means stops v s table inner x.0.nodes None None (at_start sh) p.0 p.1 v q (has, (refl, has, tt, at-root v), at-root v))))
             accepted (inr (texts_alone, loop)) =
                 let found = found-loop base N means set stops x.0 loop in
                 let call = calls_copy found.0 found.1 rules set stops depth name x.0 x.1 found.2 in

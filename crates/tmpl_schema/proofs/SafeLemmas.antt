@@ -21,5 +21,5 @@ runs-safely base stops rules set table name t sh input checked safe has =
     let p = safe-some base N (meant base.defs) stops rules.missing_key table sh t.nodes safe in
     let x = meanings s t.nodes d (started rules.step_limit d) in
     quiet-fault base N (meant base.defs) stops d p.0 x.1 x.0.env
-    (nodes-end base N (meant base.defs) stops d s table (calls-have base N (meant base.defs) stops rules set table checked (rules.depth_limit - 1)) t.nodes None (at_start sh) p.0 p.1 d
+    (nodes-end base N (meant base.defs) stops d s table (calls-have base N (meant base.defs) stops rules set table checked (rules.depth_limit - 1)) t.nodes None None (at_start sh) p.0 p.1 d
     (started rules.step_limit d) (has, (refl, has, tt, at-root d), at-root d))

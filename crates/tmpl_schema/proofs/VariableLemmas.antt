@@ -4,7 +4,6 @@ use Rattle.std.proofs.lemmas.List.{append-nil, drop-drop, length-drop}
 use Rattle.std.proofs.lemmas.Bool.{false≢true, and_parts, eqb-true, ltb-true, ltb-false}
 use Rattle.std.proofs.lemmas.Bool.Decides.{Decides-eqb, Decides-int_eq}
 use Rattle.std.specs.Ordering.{int_eq}
-use Rattle.std.proofs.lemmas.Option.{cond_some}
 use Rattle.std.specs.Option.{option_map, option_map_or, option_and_then}
 use Rattle.std.specs.List.{find}
 use Rattle.std.specs.Str.{bytes_eq}
@@ -40,7 +39,7 @@ use Rattle.tmpl_schema.specs.computed.Check.{are_texts, bounds_of, sliced_shape,
 use Rattle.tmpl_schema.specs.computed.Check as check
 use Rattle.tmpl_schema.specs.computed.Check.{Origin, narrow_from, narrow_root, origin_within, pipeline_origin, pipeline_place, place_of, place_origin, refine_all, refine_along, refine_from, rest_of, root_origin, variable_origin}
 use Rattle.tmpl_schema.proofs.OriginLemmas.{HasOrigin, IsAt, at-chain, at-gone, at-joined, at-rest, at-root, origin_within-has, origins-left, origins-right, rest_of-is}
-use Rattle.tmpl_schema.specs.computed.Check.{Known, State, variable_shape, assigned_shape, bound_shapes, refine_variable, all_within, is_split, join_all, join_origins, join_parts, join_to, last_of, if_within}
+use Rattle.tmpl_schema.specs.computed.Check.{Known, State, variable_shape, assigned_shape, bound_shapes, refine_variable, all_within, is_split, join_all, join_origins, join_parts, join_to, last_of}
 use Rattle.tmpl_schema.specs.computed.Check.{absent_field, after_both, entry_along, entry_by, operand_shape, indexed_shape, printed_shape, command_shape, pipeline_shape, narrow}
 use Rattle.tmpl_shape.proofs.KindLemmas.{has_kind-has}
 use Rattle.tmpl_shape.proofs.ShapeLemmas.{bytes-turned, same_name, within-has, join-left, join-right}
@@ -273,9 +272,6 @@ module _ (base : Base) (N : Names) (means : Means base.defs N) (top : Value) whe
   was_joined k l c true None is e = cc
   was_joined k l c false o is e = cc
 
-  pub if_within-some : (a b c : Known) → if_within base a b ≡ Some c → (all_within base a b ≡ true) × (b ≡ c)
-  if_within-some a b c e = cond_some (all_within base a b) b c e
-
   -- what is known of one of two is known of both
   pub joined-left : (a b c : Known) (env : Environment) → join_all base a b ≡ Some c → HasKnown a env → HasKnown c env
   joined-left [] [] c env e h = let same : [] ≡ c = cc in subst (λ (y : Known). HasKnown y env) same h
@@ -289,6 +285,19 @@ module _ (base : Base) (N : Names) (means : Means base.defs N) (top : Value) whe
         origins-left top k.2 l.2 v.1 h.3,
       )
   joined-left _ _ c env e h = cc
+
+  pub joined-right : (a b c : Known) (env : Environment) → join_all base a b ≡ Some c → HasKnown b env → HasKnown c env
+  joined-right [] [] c env e h = let same : [] ≡ c = cc in subst (λ (y : Known). HasKnown y env) same h
+  joined-right (k ∷ ks) (l ∷ ls) c [] e h = absurd h
+  joined-right (k ∷ ks) (l ∷ ls) c (v ∷ env) e h =
+      let p = was_joined k l c (bytes_eq k.0 l.0) (join_all base ks ls) refl e in
+      subst (λ (y : Known). HasKnown y (v ∷ env)) p.3 (
+        h.0 ∙ sym (same_name k.0 l.0 p.1),
+        (join-right base N means) k.1 l.1 v.1 h.1,
+        joined-right ks ls p.0 env p.2 h.2,
+        origins-right top k.2 l.2 v.1 h.3,
+      )
+  joined-right _ _ c env e h = cc
 
   -- what the variables after two parts begin with
   abbrev parted : List ℕ × Shape × Origin → List ℕ × Shape × Origin → List ℕ × Shape × Origin → List ℕ × Shape × Origin
@@ -1391,6 +1400,9 @@ module _ (base : Base) (N : Names) (means : Means base.defs N) (top : Value) whe
       operand-gives (group p names) k fits =
           go-gives (chain_shape base (absent_field m) names) (λ v. as_given (chain m names v)) (commands_shape base m k p None) (commands_value (place m d env) p None).result
           (commands_value (place m d env) p None).made_text (commands-give p k None None fits tt) (λ s v e. (chain-gives base N means) m names s v)
+      operand-gives (bool_constant c) k fits = refl
+      operand-gives (text_constant []) k fits = refl
+      operand-gives (text_constant (b ∷ bs)) k fits = tt
       operand-gives (function f) k fits = by_count-gives f (takes f 0) (call_shape base f []) (apply_function f []) ((call-gives base N means) f [] [] tt)
       operand-gives _ k fits = tt
 

@@ -6,7 +6,7 @@ ghost use Rattle.std.specs.Option.{option_map};
 ghost use Rattle.tmpl_grammar.specs.View.{binding_of};
 ghost use Rattle.tmpl_shape.specs.View.{shape_of};
 ghost use Rattle.tmpl_schema.specs.computed.Check.{after_both, after_parts, all_within, assigned_shape, bound_shapes, holds_loop, join_all, join_parts, join_to};
-ghost use Rattle.tmpl_schema.specs.computed.Check.{last_of, leave_with, refine_all, refine_from, refine_variable, variable_origin, variable_shape};
+ghost use Rattle.tmpl_schema.specs.computed.Check.{last_of, refine_all, refine_from, refine_variable, variable_origin, variable_shape};
 ghost use Rattle.tmpl_shape.specs.computed.Shapes.{join};
 ghost use Rattle.tmpl_shape.specs.computed.View.{base_of, shape_seen, test_seen};
 ghost use Rattle.tmpl_schema.specs.computed.View.{is_longer, known_of, known_seen, origin_of};
@@ -442,25 +442,5 @@ pub(crate) fn after_parts(
         FallThrough::Both => after_both(base, before, one, other),
         FallThrough::Body => Ok(copy_known(oldest(one, before))?),
         FallThrough::Other => Ok(copy_known(oldest(other, before))?),
-    }
-}
-
-/// Whether a break or a continue leaves the variables of the range around within those at its head.
-pub(crate) fn leave_with(
-    base: &Base<'_>,
-    known: &Known,
-    head: Option<&Known>,
-) -> Result<(), Trouble>
-    ensures { OnOk result (leave_with (base_of base.now) (known_of known.now) (known_seen head.entry)
-        ≡ Some (known_of known.now)) }
-{
-    match head {
-        Some(head) => {
-            if !all_within(base, oldest(known, head), head) {
-                return Err(Trouble::may_fail(base.alloc, Cause::Variables));
-            }
-            Ok(())
-        }
-        None => Err(Trouble::may_fail(base.alloc, Cause::Variables)),
     }
 }

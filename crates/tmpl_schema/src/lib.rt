@@ -1,6 +1,7 @@
 //! The check of a template against a schema of its data.
 #![tactic(auto)]
 
+mod after;
 mod check;
 mod facts;
 mod failure;

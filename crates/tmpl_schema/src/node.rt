@@ -7,17 +7,16 @@ ghost use Rattle.tmpl_grammar.specs.View.{header_of, pipeline_of};
 ghost use Rattle.tmpl_shape.specs.Shape.{nothings};
 ghost use Rattle.tmpl_shape.specs.View.{shape_of};
 ghost use Rattle.tmpl_shape.specs.computed.View.{base_of, visit_seen};
-ghost use Rattle.tmpl_schema.specs.computed.Check.{after_node, after_nodes, at_head, in_body, in_other, in_turn, leave_with};
+ghost use Rattle.tmpl_schema.specs.computed.Check.{after_node, after_nodes, at_head, in_body, in_other, in_turn};
 ghost use Rattle.tmpl_schema.specs.computed.Check.{pipeline_shape, settle_known, settle_soon};
-ghost use Rattle.tmpl_schema.specs.computed.View.{after_action, after_choice_by, after_range_by, known_of, known_seen, ranged_by, state_of, table_of, turn_by};
+ghost use Rattle.tmpl_schema.specs.computed.View.{after_action, after_choice_by, after_of, after_range_by, known_of, known_seen, ranged_by, state_of, table_of, turn_by};
 ghost use Rattle.tmpl_syntax.specs.Tree.{template_node};
 ghost use Rattle.tmpl_syntax.specs.View.{control_of, node_of, nodes_in};
 
+use crate::after::{After, end_parts, join_left, leave_with, with_left};
 use crate::failure::{Failure, at_node};
 use crate::flow::{dot_after, fall_through, past_parts};
-use crate::known::{
-    Known, after_parts, all_within, bind, copy_known, holds_loop, join_all, leave_with, oldest,
-};
+use crate::known::{Known, all_within, bind, copy_known, holds_loop, join_all, oldest};
 use crate::pipeline::Context;
 use crate::state::{State, copy_state, narrow, pipeline_origin};
 use crate::table::{Call, Callee, Entry, find_callee};
@@ -159,9 +158,9 @@ pub(crate) fn in_turn(
 }
 
 /// After an action.
-fn after_action(checker: &Checker<'_>, state: &State, header: &Header) -> Result<Known, Failure>
-    ensures { IfOk result (λ ks. after_action (base_of checker.now.base) checker.now.mode (state_of state.now)
-        (header_of header.now) ≡ Some (known_of ks)) }
+fn after_action(checker: &Checker<'_>, state: &State, header: &Header) -> Result<After, Failure>
+    ensures { IfOk result (λ a. after_action (base_of checker.now.base) checker.now.mode (state_of state.now)
+        (header_of header.now) ≡ Some (after_of a)) }
 {
     let shape = checker.pipeline_shape(state, &header.pipeline)?;
     let from = pipeline_origin(
@@ -169,14 +168,14 @@ fn after_action(checker: &Checker<'_>, state: &State, header: &Header) -> Result
         header.pipeline.commands.as_slice(),
         state,
     )?;
-    Ok(bind(
+    Ok(After::past(bind(
         &checker.base,
         &header.binding,
         &Shape::Nothings,
         &shape,
         &from,
         &state.known,
-    )?)
+    )?))
 }
 
 /// The shape of what is handed to a template.
@@ -211,39 +210,26 @@ fn after_call(
     state: &State,
     name: &Bytes,
     given: &Option<Pipeline>,
-) -> Result<Known, Failure>
-    ensures { IfOk result (λ ks. after_node (base_of checker.now.base) checker.now.mode
+) -> Result<After, Failure>
+    ensures { IfOk result (λ a. after_node (base_of checker.now.base) checker.now.mode
         (table_of checker.now.table.now) None (state_of state.now) (template_node name.now
-        (option_map pipeline_of given.now)) ≡ Some (known_of ks)) }
+        (option_map pipeline_of given.now)) ≡ Some (after_of a)) }
 {
     checker.base.effort.spend(checker.table.len() as u64 / 8);
     match find_callee(checker.table, name.as_slice()) {
-        Some(Callee::Absent) => Ok(copy_known(&state.known)?),
+        Some(Callee::Absent) => Ok(After::past(copy_known(&state.known)?)),
         Some(Callee::Handed(shape)) => {
             let given = handed_shape(checker, state, given)?;
             if !within(&checker.base, &given, shape) {
                 return Err(want_call(checker.base.alloc, name, given));
             }
-            Ok(copy_known(&state.known)?)
+            Ok(After::past(copy_known(&state.known)?))
         }
         None => {
             let given = handed_shape(checker, state, given)?;
             Err(want_call(checker.base.alloc, name, given))
         }
     }
-}
-
-/// After a break or a continue.
-fn after_leaving(
-    checker: &Checker<'_>,
-    head: Option<&Known>,
-    state: &State,
-) -> Result<Known, Failure>
-    ensures { IfOk result (λ ks. leave_with (base_of checker.now.base) (known_of state.now.known)
-        (known_seen head.entry) ≡ Some (known_of ks)) }
-{
-    leave_with(&checker.base, &state.known, head)?;
-    Ok(copy_known(&state.known)?)
 }
 
 /// The parts of a control.
@@ -264,21 +250,21 @@ fn after_choice(
     control: Control,
     parts: &Parts<'_>,
     shape: &Shape,
-) -> Result<Known, Failure>
-    ensures { IfOk result (λ ks. after_choice_by (base_of checker.now.base) checker.now.mode
+) -> Result<After, Failure>
+    ensures { IfOk result (λ a. after_choice_by (base_of checker.now.base) checker.now.mode
         (table_of checker.now.table.now) (known_seen head.entry) control (header_of parts.now.header.now)
         (state_of state.now) (nodes_in parts.now.body.now) (nodes_in parts.now.other.now) (shape_of shape.now)
-        ≡ Some (known_of ks)) }
+        ≡ Some (after_of a)) }
 {
     let inside = in_body(&checker.base, control, parts.header, state, shape)?;
     let one = after_nodes(checker, head, inside, parts.body)?;
     let outside = in_other(&checker.base, parts.header, state, shape)?;
     let other = after_nodes(checker, head, outside, parts.other)?;
     let through = fall_through(checker, parts.body, parts.other);
-    Ok(after_parts(&checker.base, through, &state.known, &one, &other)?)
+    Ok(end_parts(&checker.base, through, &state.known, one, other)?)
 }
 
-/// After a turn of a range.
+/// The variables after a turn of a range, however it ends.
 #[cycle(node)]
 fn turn(
     checker: &Checker<'_>,
@@ -292,8 +278,8 @@ fn turn(
         (known_of known.now) ≡ Some (known_of ks)) }
 {
     let inside = in_turn(&checker.base, header, visit, known)?;
-    let end = after_nodes(checker, Some(known), inside, body)?;
-    Ok(copy_known(oldest(&end, known))?)
+    let after = after_nodes(checker, Some(known), inside, body)?;
+    Ok(with_left(&checker.base, oldest(&after.known, known), &after.left)?)
 }
 
 /// The variables at the head of a range, looked for in as many rounds as these.
@@ -347,18 +333,19 @@ fn after_range(
     state: &State,
     parts: &Parts<'_>,
     visit: &Visit,
-) -> Result<Known, Failure>
-    ensures { IfOk result (λ ks. after_range_by (base_of checker.now.base) checker.now.mode
+) -> Result<After, Failure>
+    ensures { IfOk result (λ a. after_range_by (base_of checker.now.base) checker.now.mode
         (table_of checker.now.table.now) (known_seen head.entry) (header_of parts.now.header.now)
         (state_of state.now) (nodes_in parts.now.body.now) (nodes_in parts.now.other.now) (visit_seen visit.now)
-        ≡ Some (known_of ks)) }
+        ≡ Some (after_of a)) }
 {
     let start = at_head(&checker.base, parts.header, state)?;
     let settled_head = settle_soon(checker, &start, parts.header, visit, parts.body)?;
     let outside = copy_state(checker.base.alloc, state)?;
     let other = after_nodes(checker, head, outside, parts.other)?;
     let through = past_parts(checker, Control::Range, parts.body, parts.other);
-    Ok(after_parts(&checker.base, through, &state.known, &settled_head, &other)?)
+    let settled = After::past(settled_head);
+    Ok(end_parts(&checker.base, through, &state.known, settled, other)?)
 }
 
 /// After a range over values of this shape.
@@ -370,11 +357,11 @@ fn after_ranging(
     state: &State,
     parts: &Parts<'_>,
     shape: &Shape,
-) -> Result<Known, Failure>
-    ensures { IfOk result (λ ks. ranged_by (base_of checker.now.base) checker.now.mode
+) -> Result<After, Failure>
+    ensures { IfOk result (λ a. ranged_by (base_of checker.now.base) checker.now.mode
         (table_of checker.now.table.now) (known_seen head.entry) (header_of parts.now.header.now)
         (state_of state.now) (nodes_in parts.now.body.now) (nodes_in parts.now.other.now) (shape_of shape.now)
-        ≡ Some (known_of ks)) }
+        ≡ Some (after_of a)) }
 {
     let visit = visit_of(&checker.base, &parts.header.binding, shape)?;
     after_range(checker, head, state, parts, &visit)
@@ -387,10 +374,10 @@ fn after_control(
     head: Option<&Known>,
     state: &State,
     control: &ControlNode,
-) -> Result<Known, Failure>
-    ensures { IfOk result (λ ks. after_node (base_of checker.now.base) checker.now.mode
+) -> Result<After, Failure>
+    ensures { IfOk result (λ a. after_node (base_of checker.now.base) checker.now.mode
         (table_of checker.now.table.now) (known_seen head.entry) (state_of state.now) (control_of control.now)
-        ≡ Some (known_of ks)) }
+        ≡ Some (after_of a)) }
 {
     if !holds_loop(head, &state.known) {
         return Err(Failure::may_fail(checker.base.alloc, Cause::Variables, None));
@@ -415,21 +402,21 @@ pub(crate) fn after_node(
     head: Option<&Known>,
     state: &State,
     node: &Node,
-) -> Result<Known, Failure>
-    ensures { IfOk result (λ ks. after_node (base_of checker.now.base) checker.now.mode
+) -> Result<After, Failure>
+    ensures { IfOk result (λ a. after_node (base_of checker.now.base) checker.now.mode
         (table_of checker.now.table.now) (known_seen head.entry) (state_of state.now) (node_of node.now).what
-        ≡ Some (known_of ks)) }
+        ≡ Some (after_of a)) }
 {
     checker.base.effort.spend(NODE);
     if checker.base.effort.is_spent() {
         return Err(Failure::may_fail(checker.base.alloc, Cause::TooComplex, None));
     }
     match &node.what {
-        NodeKind::Text(_) => Ok(copy_known(&state.known)?),
+        NodeKind::Text(_) => Ok(After::past(copy_known(&state.known)?)),
         NodeKind::Action(header) => after_action(checker, state, header),
         NodeKind::Control(control) => after_control(checker, head, state, control),
-        NodeKind::Break => after_leaving(checker, head, state),
-        NodeKind::Continue => after_leaving(checker, head, state),
+        NodeKind::Break => Ok(leave_with(&checker.base, &state.known, head)?),
+        NodeKind::Continue => Ok(leave_with(&checker.base, &state.known, head)?),
         NodeKind::Template(name, given) => after_call(checker, state, name, given),
     }
 }
@@ -442,21 +429,27 @@ pub(crate) fn after_nodes(
     head: Option<&Known>,
     state: State,
     nodes: &[Node],
-) -> Result<Known, Failure>
-    ensures { IfOk result (λ ks. after_nodes (base_of checker.now.base) checker.now.mode
-        (table_of checker.now.table.now) (known_seen head.entry) (state_of state) (nodes_in nodes.now)
-        ≡ Some (known_of ks)) }
+) -> Result<After, Failure>
+    ensures { IfOk result (λ a. after_nodes (base_of checker.now.base) checker.now.mode
+        (table_of checker.now.table.now) (known_seen head.entry) None (state_of state) (nodes_in nodes.now)
+        ≡ Some (after_of a)) }
 {
     let State { dot, origin, known } = state;
     let mut state = State { dot, origin, known };
+    let mut left: Option<Known> = None;
     for node in nodes {
         match after_node(checker, head, &state, node) {
-            Ok(known) => {
+            Ok(after) => {
+                let After { known, left: more } = after;
                 state.dot = dot_after(checker, &state, node)?;
                 state.known = known;
+                left = join_left(&checker.base, left, more)?;
             }
             Err(trouble) => return Err(at_node(trouble, node)),
         }
     }
-    Ok(state.known)
+    Ok(After {
+        known: state.known,
+        left,
+    })
 }

@@ -10,19 +10,20 @@ ghost use Rattle.tmpl_funcs.specs.Func.{takes};
 ghost use Rattle.tmpl_shape.specs.View.{shape_of};
 ghost use Rattle.tmpl_shape.specs.computed.Calls.{kinds_shape};
 ghost use Rattle.tmpl_shape.specs.computed.View.{base_of, shape_seen};
-ghost use Rattle.tmpl_schema.specs.computed.Check.{absent_field, alone, command_shape, commands_shape, entry_along, entry_by, indexed_shape, junction_shape, operand_shape, pipeline_shape, printed_shape, sliced_shape};
+ghost use Rattle.tmpl_schema.specs.computed.Check.{absent_field, alone, command_shape, commands_shape, entry_along, entry_by, indexed_shape, junction_shape, operand_shape, pipeline_shape, printed_shape, sliced_shape, text_shape};
 ghost use Rattle.tmpl_schema.specs.computed.View.{argument_kinds, called_shape, in_context};
 
 use crate::facts::{Head, bounds_of, head_of, key_of, text_of};
 use crate::known::variable_shape;
 use crate::state::{State, narrow_operand};
+use std::alloc::{AllocError, Global};
 use tmpl_funcs::Func;
 use tmpl_grammar::{Command, Operand};
 use tmpl_meaning::MissingKey;
 use tmpl_shape::{
-    AbsentField, Base, Cause, Key, Kind, Kinds, Shape, Trouble, call_shape, chain_shape,
-    copy_counted, fill, has_kind, index_shape, join, kinds_of, null_gone, part_shape, printf_shape,
-    within,
+    AbsentField, Base, Cause, Constant, Key, Kind, Kinds, Shape, Trouble, call_shape, chain_shape,
+    copy_counted, copy_name, fill, has_kind, index_shape, join, kinds_of, null_gone, part_shape,
+    printf_shape, within,
 };
 
 /// What stands for an absent field by the option `missingkey`.
@@ -33,6 +34,17 @@ fn absent_field(mode: MissingKey) -> AbsentField
         MissingKey::Default | MissingKey::Invalid => AbsentField::Nothing,
         MissingKey::Zero => AbsentField::Null,
         MissingKey::Error => AbsentField::Fault,
+    }
+}
+
+/// The shape of a text that is written out: one that is empty is told from others, since a variable may hold it until
+/// another value is found.
+fn text_shape(alloc: Global, text: &[u8]) -> Result<Shape, AllocError>
+    ensures { IfOk result (λ s. shape_of s ≡ text_shape text.now) }
+{
+    match text {
+        [] => Ok(Shape::Exactly(Constant::Text(copy_name(alloc, text)?))),
+        [_, _rest @ ..] => Ok(Shape::Texts),
     }
 }
 
@@ -141,9 +153,9 @@ impl Context<'_> {
                     None => Err(self.may_fail(Cause::Command)),
                 }
             }
-            Operand::Bool(_) => Ok(Shape::Truths),
+            Operand::Bool(value) => Ok(Shape::Exactly(Constant::Bool(*value))),
             Operand::Number(_) => Ok(Shape::Numbers),
-            Operand::Text(_) => Ok(Shape::Texts),
+            Operand::Text(text) => Ok(text_shape(self.base.alloc, text.as_slice())?),
             Operand::Nil => Ok(Shape::Nothings),
             Operand::Function(func) => self.bare_shape(*func),
             Operand::Group { commands, fields } => {

@@ -3,6 +3,7 @@
 //! analysis continues as if the action gave no value at all, so that nothing more is reported of it.
 #![tactic(auto)]
 
+use crate::after::After;
 use crate::check::{Refusal, is_stop, mode_for};
 use crate::failure::{Doubt, Failure, Position};
 use crate::flow::{FallThrough, dot_after, fall_through, past_parts};
@@ -158,7 +159,10 @@ fn survey_nodes(
     let mut state = State { dot, origin, known };
     for node in nodes {
         let known = match after_node(checker, head, &state, node) {
-            Ok(known) => known,
+            Ok(after) => {
+                let After { known, .. } = after;
+                known
+            }
             Err(failure) => {
                 if checker.is_spent() {
                     found.give_up(walk, &failure, Position::of(node))?;

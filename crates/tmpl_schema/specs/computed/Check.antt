@@ -14,7 +14,8 @@ use Rattle.tmpl_meaning.specs.declared.missing_key.MissingKey.{MissingKey}
 use Rattle.tmpl_meaning.specs.declared.missing_key.MissingKey.TheVariants as mode
 use Rattle.tmpl_shape.specs.declared.field.AbsentField.{AbsentField}
 use Rattle.tmpl_shape.specs.declared.field.AbsentField.TheVariants as absent_as
-use Rattle.tmpl_shape.specs.Shape.{Shape, nothings, truths, numbers, texts}
+use Rattle.tmpl_shape.specs.Shape.{Shape, nothings, numbers, texts, exactly}
+use Rattle.tmpl_shape.specs.declared.constant.Constant.TheVariants as constant
 use Rattle.tmpl_funcs.specs.Func.{takes}
 use Rattle.tmpl_funcs.specs.declared.func.Func.{Func}
 use Rattle.tmpl_funcs.specs.declared.func.Func.TheVariants.{And, Or, Not, Len, Index, Eq, Ne, Lt, Le, Gt, Ge}
@@ -62,6 +63,11 @@ abbrev pub absent_field : MissingKey → AbsentField
 absent_field mode.Error = absent_as.Fault
 absent_field mode.Zero = absent_as.Null
 absent_field m = absent_as.Nothing
+
+-- the shape of a text that is written out: one that is empty is told from others
+abbrev pub text_shape : List ℕ → Shape
+text_shape [] = exactly (constant.Text [])
+text_shape (b ∷ bs) = texts
 
 -- the shape of an operand to which nothing is piped and no argument given
 abbrev pub alone : Option Shape → Option Shape → Operands → Option Shape
@@ -341,9 +347,18 @@ abbrev pub dot_in : {T : Type 0} → Control → T → T → T
 dot_in control.With s d = s
 dot_in c s d = d
 
+-- the variables after nodes, and those with which a break or a continue may leave the range around, if one may
+pub record After : Type 0 where
+  pub env : Known
+  pub left : Option Known
+
+-- .. after what leaves no range
+abbrev pub past : Known → After
+past ks = record { env = ks; left = None }
+
 -- what a check of nodes gives, by what is known before them
 abbrev pub Checked : Type 0
-Checked = State → Option Known
+Checked = State → Option After
 
 -- a template's start over a value of the shape
 abbrev pub at_start : Shape → State
@@ -378,9 +393,10 @@ past_parts c table body other = fall_through table body other
 abbrev pub in_turn : Header → Visit → Known → State
 in_turn h v ks = record { dot = v.element; from = None; env = bound_shapes h.binding v.key v.element None ks }
 
--- the variables after a turn
-abbrev pub turn_known : Header → Visit → (Option Known → Checked) → Known → Option Known
-turn_known h v body ks = option_map (last_of (length ks)) (body (Some ks) (in_turn h v ks))
+-- a break or a continue leaves the range with the variables that were there at its head
+abbrev pub leave_with : Known → Option Known → Option After
+leave_with ks None = None
+leave_with ks (Some head) = Some (record { env = ks; left = Some (last_of (length head) ks) })
 
 module _ (base : Base) where
   -- ---- variables
@@ -512,9 +528,9 @@ module _ (base : Base) where
     operand_shape m k dot = Some k.dot
     operand_shape m k (fields names) = chain_shape base (absent_field m) names k.dot
     operand_shape m k (variable name names) = option_and_then (chain_shape base (absent_field m) names) (variable_shape name k.env)
-    operand_shape m k (bool_constant c) = Some truths
+    operand_shape m k (bool_constant c) = Some (exactly (constant.Bool c))
     operand_shape m k (number_constant n) = Some numbers
-    operand_shape m k (text_constant bytes) = Some texts
+    operand_shape m k (text_constant bytes) = Some (text_shape bytes)
     operand_shape m k nil = Some nothings
     operand_shape m k (function f) = if takes f 0 then call_shape base f [] else None
     operand_shape m k (group p names) = option_and_then (chain_shape base (absent_field m) names) (commands_shape m k p None)
@@ -578,10 +594,6 @@ module _ (base : Base) where
 
   -- ---- nodes
 
-  -- a set of variables, where it is within another
-  abbrev pub if_within : Known → Known → Option Known
-  if_within ks ls = if all_within ks ls then Some ls else None
-
   -- the values of both; where neither are among the other, but both among the third, those of the third
   abbrev pub is_split : Shape → Shape → Shape → Bool
   is_split r s t = not (within base s t || within base t s) && (within base s r && within base t r)
@@ -613,10 +625,18 @@ module _ (base : Base) where
   unfoldable pub settle_soon : (Known → Option Known) → Known → Option Known
   settle_soon turn ks = settle_known 12 turn ks
 
-  -- at a break or continue the variables are within those at the head of the range
-  abbrev pub leave_with : Known → Option Known → Option Known
-  leave_with ks None = None
-  leave_with ks (Some head) = option_map (λ u. ks) (if_within (last_of (length head) ks) head)
+  -- the variables of both, where the second may be none, and where each may
+  abbrev pub with_left : Known → Option Known → Option Known
+  with_left ks None = Some ks
+  with_left ks (Some ls) = join_all ks ls
+
+  abbrev pub join_left : Option Known → Option Known → Option (Option Known)
+  join_left None ls = Some ls
+  join_left (Some ks) ls = option_map (λ js. Some js) (with_left ks ls)
+
+  -- the variables after a turn, however it ends
+  abbrev pub turn_known : Header → Visit → (Option Known → Checked) → Known → Option Known
+  turn_known h v body ks = option_and_then (λ a. with_left (last_of (length ks) a.env) a.left) (body (Some ks) (in_turn h v ks))
 
   -- where an `if` or a `with` goes on with its body, and with its other part
   abbrev pub in_body : Control → Header → State → Shape → State
@@ -635,9 +655,14 @@ module _ (base : Base) where
   after_parts Body rs ks ls = Some (last_of (length rs) ks)
   after_parts Other rs ks ls = Some (last_of (length rs) ls)
 
-  abbrev pub after_choice : FallThrough → Control → Header → State → Checked → Checked → Shape → Option Known
+  -- .. with those with which one of the two leaves the range around
+  abbrev pub end_parts : FallThrough → Known → After → After → Option After
+  end_parts w rs a b =
+      option_and_then (λ ks. option_map (λ ls. record { env = ks; left = ls }) (join_left a.left b.left)) (after_parts w rs a.env b.env)
+
+  abbrev pub after_choice : FallThrough → Control → Header → State → Checked → Checked → Shape → Option After
   after_choice w c h k body other s =
-      option_and_then (λ a. option_and_then (after_parts w k.env a) (other (in_other h k s))) (body (in_body c h k s))
+      option_and_then (λ a. option_and_then (end_parts w k.env a) (other (in_other h k s))) (body (in_body c h k s))
 
   -- what is known of dot after them
   abbrev pub dot_by : FallThrough → Pipeline → State → Shape
@@ -654,41 +679,43 @@ module _ (base : Base) where
   abbrev pub at_head : Header → State → Known
   at_head h k = (narrow true h.pipeline k).env
 
-  abbrev pub after_range : FallThrough → Header → State → (Option Known → Checked) → Checked → Visit → Option Known
+  abbrev pub after_range : FallThrough → Header → State → (Option Known → Checked) → Checked → Visit → Option After
   after_range w h k body other v =
-      option_and_then (λ head. option_and_then (after_parts w k.env head) (other k)) (settle_soon (turn_known h v body) (at_head h k))
+      option_and_then (λ head. option_and_then (end_parts w k.env (past head)) (other k)) (settle_soon (turn_known h v body) (at_head h k))
 
   abbrev pub after_control :
-      FallThrough → Control → Option Known → Header → State → (Option Known → Checked) → Checked → Shape → Option Known
+      FallThrough → Control → Option Known → Header → State → (Option Known → Checked) → Checked → Shape → Option After
   after_control w control.Range loop h k body other s =
       option_and_then (after_range w h k body other) (visit_of base h.binding s)
   after_control w c loop h k body other s = after_choice w c h k (body loop) other s
 
   -- where a template that is known is handed a value of the shape
-  abbrev pub after_call : Callee → Known → Option Shape → Option Known
-  after_call absent ks given = Some ks
-  after_call (handed t) ks given = option_and_then (λ s. if within base s t then Some ks else None) given
+  abbrev pub after_call : Callee → Known → Option Shape → Option After
+  after_call absent ks given = Some (past ks)
+  after_call (handed t) ks given = option_and_then (λ s. if within base s t then Some (past ks) else None) given
 
   abbrev mutual
     -- the variables after a node, if it has no fault but those that may come
-    pub after_node : MissingKey → Table → Option Known → State → NodeKind → Option Known
-    after_node m table loop k (text bytes) = Some k.env
+    pub after_node : MissingKey → Table → Option Known → State → NodeKind → Option After
+    after_node m table loop k (text bytes) = Some (past k.env)
     after_node m table loop k (action h) =
-        option_map (λ s. bound_shapes h.binding nothings s (pipeline_origin k h.pipeline) k.env) (pipeline_shape m k h.pipeline)
+        option_map (λ s. past (bound_shapes h.binding nothings s (pipeline_origin k h.pipeline) k.env)) (pipeline_shape m k h.pipeline)
     after_node m table loop k (control_node c h body other) =
         if holds_loop loop k.env then option_and_then
-        (after_control (past_parts c table body other) c loop h k (λ l u. after_nodes m table l u body) (λ u. after_nodes m table loop u other))
+        (after_control (past_parts c table body other) c loop h k (λ l u. after_nodes m table l None u body) (λ u. after_nodes m table loop None u other))
         (pipeline_shape m k h.pipeline) else None
     after_node m table loop k break_node = leave_with k.env loop
     after_node m table loop k continue_node = leave_with k.env loop
     after_node m table loop k (template_node name given) =
         option_and_then (λ c. after_call c k.env (option_map_or (pipeline_shape m k) given (Some nothings))) (table name)
 
-    pub after_nodes : MissingKey → Table → Option Known → State → Nodes → Option Known
-    after_nodes m table loop k tree.none = Some k.env
-    after_nodes m table loop k (tree.then line n ns) =
-        option_and_then (λ ks. after_nodes m table loop (record k { dot = dot_after table k n; env = ks }) ns) (after_node m table loop k n)
+    -- .. after nodes, where those before them leave the range with these
+    pub after_nodes : MissingKey → Table → Option Known → Option Known → State → Nodes → Option After
+    after_nodes m table loop left k tree.none = Some (record { env = k.env; left = left })
+    after_nodes m table loop left k (tree.then line n ns) =
+        option_and_then (λ a. option_and_then (λ ls. after_nodes m table loop ls (record k { dot = dot_after table k n; env = a.env }) ns)
+        (join_left left a.left)) (after_node m table loop k n)
 
   -- the nodes of a template are accepted for values of the shape
   abbrev pub is_safe : MissingKey → Table → Shape → Nodes → Bool
-  is_safe m table s ns = option_map_or (λ ks. true) (after_nodes m table None (at_start s) ns) false
+  is_safe m table s ns = option_map_or (λ a. true) (after_nodes m table None None (at_start s) ns) false

@@ -15,7 +15,7 @@ use Rattle.tmpl_schema.specs.declared.facts.Head as held_head
 use Rattle.tmpl_schema.specs.declared.facts.Head.TheVariants as head
 use Rattle.tmpl_schema.specs.declared.facts.Place as held_place
 use Rattle.tmpl_schema.specs.computed.Check.{Fact, Head, calls, is_nil, is_value, Place, texts_in}
-use Rattle.tmpl_schema.specs.computed.Check.{Known, Origin, State, Callee, Table, handed, absent, operand_shapes, after_choice, after_nodes}
+use Rattle.tmpl_schema.specs.computed.Check.{Known, Origin, State, After, Callee, Table, handed, absent, past, operand_shapes, after_choice, after_nodes}
 use Rattle.tmpl_schema.specs.computed.Check.{after_range, fall_through, past_parts, bound_shapes, call_state, command_call, counts_in, narrow_all, narrow_as, piped_fact, pipeline_origin, pipeline_shape, turn_known}
 use Rattle.tmpl_grammar.specs.Tree.{Header}
 use Rattle.tmpl_syntax.specs.Tree.{Nodes}
@@ -30,6 +30,7 @@ use Rattle.tmpl_funcs.specs.declared.func.Func.{Func}
 use Rattle.tmpl_meaning.specs.declared.missing_key.MissingKey.{MissingKey}
 use Rattle.tmpl_shape.specs.computed.Shapes as computed
 use Rattle.tmpl_shape.specs.computed.Shapes.{kinds_of, visit_of}
+use Rattle.tmpl_schema.specs.declared.after.After as held_after
 use Rattle.tmpl_schema.specs.declared.known.Known as held_known
 use Rattle.tmpl_schema.specs.declared.known.Known.{fold-Known}
 use Rattle.tmpl_schema.specs.declared.known.Known.TheOpen.{Known-F, Variable-F}
@@ -51,6 +52,13 @@ known_of = fold-Known Known Known known_step variable_step
 
 abbrev pub known_seen : Option (Bor held_known.Known) → Option Known
 known_seen head = option_map (λ k. known_of k.now) head
+
+-- the variables with which a range may be left
+abbrev pub left_of : Option held_known.Known → Option Known
+left_of left = option_map known_of left
+
+abbrev pub after_of : held_after.After → After
+after_of a = record { env = known_of a.known; left = left_of a.left }
 
 -- the first list has more elements
 abbrev pub is_longer : {T : Type 0} → List T → List T → Bool
@@ -108,26 +116,28 @@ table_of [] x = None
 table_of (e ∷ es) x = if bytes_eq x e.name then Some (callee_of e.callee) else table_of es x
 
 -- what is known after an action
-abbrev pub after_action : computed.Base → MissingKey → State → Header → Option Known
-after_action base m k h = option_map (λ s. bound_shapes h.binding spec.nothings s (pipeline_origin k h.pipeline) k.env) (pipeline_shape base m k h.pipeline)
+abbrev pub after_action : computed.Base → MissingKey → State → Header → Option After
+after_action base m k h =
+    option_map (λ s. past (bound_shapes h.binding spec.nothings s (pipeline_origin k h.pipeline) k.env)) (pipeline_shape base m k h.pipeline)
 
 -- after a turn of a range with this body
 abbrev pub turn_by : computed.Base → MissingKey → Table → Header → computed.Visit → Nodes → Known → Option Known
-turn_by base m table h v body = turn_known h v (λ l u. after_nodes base m table l u body)
+turn_by base m table h v body = turn_known base h v (λ l u. after_nodes base m table l None u body)
 
 -- after an `if` or a `with`, and after a range that visits these, by their nodes
 abbrev pub after_choice_by :
-    computed.Base → MissingKey → Table → Option Known → Control → Header → State → Nodes → Nodes → spec.Shape → Option Known
+    computed.Base → MissingKey → Table → Option Known → Control → Header → State → Nodes → Nodes → spec.Shape → Option After
 after_choice_by base m table loop c h k body other s =
-    after_choice base (fall_through table body other) c h k (λ u. after_nodes base m table loop u body) (λ u. after_nodes base m table loop u other) s
+    after_choice base (fall_through table body other) c h k (λ u. after_nodes base m table loop None u body) (λ u. after_nodes base m table loop None u other) s
 
 abbrev pub after_range_by :
-    computed.Base → MissingKey → Table → Option Known → Header → State → Nodes → Nodes → computed.Visit → Option Known
+    computed.Base → MissingKey → Table → Option Known → Header → State → Nodes → Nodes → computed.Visit → Option After
 after_range_by base m table loop h k body other v =
-    after_range base (past_parts control.Range table body other) h k (λ l u. after_nodes base m table l u body) (λ u. after_nodes base m table loop u other) v
+    after_range base (past_parts control.Range table body other) h k (λ l u. after_nodes base m table l None u body)
+    (λ u. after_nodes base m table loop None u other) v
 
 abbrev pub ranged_by :
-    computed.Base → MissingKey → Table → Option Known → Header → State → Nodes → Nodes → spec.Shape → Option Known
+    computed.Base → MissingKey → Table → Option Known → Header → State → Nodes → Nodes → spec.Shape → Option After
 ranged_by base m table loop h k body other s =
     option_and_then (after_range_by base m table loop h k body other) (visit_of base h.binding s)
 

@@ -1,4 +1,4 @@
-use Rattle.std.proofs.Common.{rules, ◌≡◌, ◌∙◌, true, Option, Some, IfOk, ap, sym, subst}
+use Rattle.std.proofs.Common.{rules, ◌≡◌, ◌∙◌, true, Option, Some, None, IfOk, ap, sym, subst}
 use Rattle.tmpl_grammar.specs.View.{header_of}
 use Rattle.tmpl_grammar.specs.declared.tree.Control.TheVariants as control
 use Rattle.tmpl_syntax.specs.Tree.{control_node}
@@ -6,9 +6,9 @@ use Rattle.tmpl_syntax.specs.View.{control_of, nodes_in}
 use Rattle.tmpl_syntax.specs.declared.tree.ControlNode.{out-ControlNode}
 use Rattle.tmpl_shape.specs.View.{shape_of}
 use Rattle.tmpl_schema.specs.declared.flow.FallThrough.{FallThrough}
-use Rattle.tmpl_schema.specs.computed.Check.{Known, State, after_nodes, after_parts, holds_loop, pipeline_shape, settle_known, settle_soon}
+use Rattle.tmpl_schema.specs.computed.Check.{After, Known, State, after_nodes, end_parts, holds_loop, past, past_parts, pipeline_shape, settle_known, settle_soon}
 use Rattle.tmpl_shape.specs.computed.View.{base_of, visit_seen}
-use Rattle.tmpl_schema.specs.computed.View.{known_of, known_seen, state_of, table_of, turn_by}
+use Rattle.tmpl_schema.specs.computed.View.{after_of, known_of, known_seen, state_of, table_of, turn_by}
 use Rattle.tmpl_schema.proofs.ControlLemmas.{control_seen, range-control, range-is}
 use Rattle.tmpl_schema.proofs.StepLemmas.{soon-settle_known}
 use Rattle.tmpl_schema.proofs.node.+node.Goals as goal
@@ -31,12 +31,16 @@ after_range-returns t c =
     let other = nodes_in c.args.parts.now.other.now in
     let m = c.args.checker.now.mode in
     let h = header_of c.args.parts.now.header.now in
-    let two : after_nodes base m table loop k other ≡ Some (known_of c.in_ok-other.other) =
-    subst (λ (i : State). after_nodes base m table loop i other ≡ Some (known_of c.in_ok-other.other)) c.in_ok-outside.ensures c.in_ok-other.ensures in
-    range-is base m table loop h k body other (visit_seen c.args.visit.now) (known_of c.in_ok-start.start) (known_of c.in_ok-settled_head.settled_head)
-    (known_of c.in_ok-other.other) c.in_ok-start.ensures c.in_ok-settled_head.ensures two
-    ∙ subst (λ (w : FallThrough). after_parts base w k.env (known_of c.in_ok-settled_head.settled_head) (known_of c.in_ok-other.other)
-    ≡ Some (known_of c.in_ok-after_parts.field-0)) c.past_parts-through.ensures c.in_ok-after_parts.ensures
+    let two : after_nodes base m table loop None k other ≡ Some (after_of c.in_ok-other.other) =
+    subst (λ (i : State). after_nodes base m table loop None i other ≡ Some (after_of c.in_ok-other.other)) c.in_ok-outside.ensures c.in_ok-other.ensures in
+    let head = known_of c.in_ok-settled_head.settled_head in
+    let settled : after_of c.past-settled.result ≡ past head = c.past-settled.ensures in
+    range-is base m table loop h k body other (visit_seen c.args.visit.now) (known_of c.in_ok-start.start) head
+    (after_of c.in_ok-other.other) c.in_ok-start.ensures c.in_ok-settled_head.ensures two
+    ∙ subst (λ (a : After). end_parts base (past_parts control.Range table body other) k.env a (after_of c.in_ok-other.other)
+    ≡ Some (after_of c.in_ok-end_parts.field-0)) settled
+    (subst (λ (w : FallThrough). end_parts base w k.env (after_of c.past-settled.result) (after_of c.in_ok-other.other)
+    ≡ Some (after_of c.in_ok-end_parts.field-0)) c.past_parts-through.ensures c.in_ok-end_parts.ensures)
 
 pub after_control-returns : goal.after_control-returns
 after_control-returns t c =
@@ -51,5 +55,5 @@ after_control-returns t c =
     let seen : control_of c.args.control.now ≡ control_node control.Range h body other = rw (control_seen c.args.control.now) (search rules) in
     let holds : holds_loop loop k.env ≡ true = search rules in
     let shape : pipeline_shape base m k h.pipeline ≡ Some (shape_of c.in_ok-shape.shape) = search rules in
-    subst (λ (o : Option Known). IfOk c.after_ranging.result (λ ks. o ≡ Some (known_of ks)))
+    subst (λ (o : Option After). IfOk c.after_ranging.result (λ a. o ≡ Some (after_of a)))
     (sym (range-control base m table loop k (control_of c.args.control.now) h body other (shape_of c.in_ok-shape.shape) seen holds shape)) c.after_ranging.ensures

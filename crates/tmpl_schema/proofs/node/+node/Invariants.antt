@@ -1,8 +1,8 @@
-use Rattle.std.proofs.Common.{◌≡◌, ◌+◌, ◌*◌, drop}
+use Rattle.std.proofs.Common.{◌≡◌, ◌+◌, ◌*◌, None, drop}
 use Rattle.tmpl_syntax.specs.View.{control_of, node_of, nodes_in}
 use Rattle.tmpl_schema.specs.computed.Check.{after_nodes}
 use Rattle.tmpl_shape.specs.computed.View.{base_of}
-use Rattle.tmpl_schema.specs.computed.View.{known_seen, state_of, table_of}
+use Rattle.tmpl_schema.specs.computed.View.{known_seen, left_of, state_of, table_of}
 use Rattle.tmpl_schema.proofs.NodeLemmas.{node_weight, nodes_weight}
 use Rattle.tmpl_schema.proofs.node.+node.Given as goal
 
@@ -32,8 +32,9 @@ decreases-turn l = 60 * nodes_weight (nodes_in l.body.now) + 4
 
 abbrev pub invariant-after_nodes-loop-node : goal.invariant-after_nodes-loop-node
 invariant-after_nodes-loop-node l =
-    after_nodes (base_of l.checker.base) l.checker.mode (table_of l.checker.table.now) (known_seen l.head) (state_of l.initial.state) (nodes_in l.nodes)
-    ≡ after_nodes (base_of l.checker.base) l.checker.mode (table_of l.checker.table.now) (known_seen l.head) (state_of l.state) (nodes_in (drop l.node-index l.nodes))
+    after_nodes (base_of l.checker.base) l.checker.mode (table_of l.checker.table.now) (known_seen l.head) None (state_of l.initial.state) (nodes_in l.nodes)
+    ≡ after_nodes (base_of l.checker.base) l.checker.mode (table_of l.checker.table.now) (known_seen l.head) (left_of l.left) (state_of l.state)
+    (nodes_in (drop l.node-index l.nodes))
 
 abbrev pub decreases-after_ranging : goal.decreases-after_ranging
 decreases-after_ranging l = 60 * (nodes_weight (nodes_in l.parts.now.body.now) + nodes_weight (nodes_in l.parts.now.other.now)) + 31
