@@ -441,6 +441,18 @@ def drawn_leaving(draw, scope):
     return line
 
 
+def drawn_found(draw, scope):
+    """A variable that a range changes, mostly before it is left, and what may be known of it then."""
+    first = draw.choice(["false", "false", '""', '""', "true", "0", '"x"', ".a", "$"])
+    value = draw.choice([".", ".", ".a", ".a.b", "true", '"x"', "$.b"])
+    leave = draw.choice(["{{break}}", "{{break}}", "{{continue}}", "", "{{if .b}}{{break}}{{end}}", "{{range $.c}}{{$v = .}}{{break}}{{end}}"])
+    used = draw.choice(["{{len $v}}", "{{$v.a}}", "{{$v.a.b}}", "{{lt $v 3}}", "{{not $v}}", "{{range $v}}{{end}}", "{{index $v 0}}", '{{printf "%s" $v}}', '{{template "w" $v}}'])
+    past = draw.choice(["USED", "{{if $v}}USED{{end}}", "{{if $v}}USED{{end}}", "{{with $v}}{{.a}}USED{{end}}", "{{if not $v}}USED{{end}}", "{{if $v}}{{else}}USED{{end}}"])
+    body = draw.choice(["{{if .a}}SET{{end}}", "{{if .a}}SET{{end}}", "{{if eq . nil}}{{else}}SET{{end}}", "{{with .a}}SET{{end}}", "SET", "PAST{{if .b}}SET{{end}}"])
+    line = "{{$v := %s}}{{range %s}}%s{{end}}PAST" % (first, drawn_path(draw, scope), body.replace("SET", "{{$v = %s}}%s" % (value, leave)))
+    return line.replace("PAST", past).replace("USED", used)
+
+
 def drawn_own_range(draw, scope):
     """A range, in it what is known of what it ranges over, and past it what is not."""
     place = draw.choice(["$.", "$.", "$r."]) + draw.choice(["a", "b", "c", "a.b"])
@@ -456,7 +468,7 @@ def drawn_line(draw, depth, scope):
     """A part of a template, over dot and the variables in scope."""
     path = drawn_path(draw, scope)
     if draw.random() < 0.4:
-        return draw.choice([drawn_printf, drawn_index, drawn_part, drawn_part, drawn_comparison, drawn_tagged, drawn_tagged, drawn_leaving, drawn_leaving, drawn_own_range])(draw, scope)
+        return draw.choice([drawn_printf, drawn_index, drawn_part, drawn_part, drawn_comparison, drawn_tagged, drawn_tagged, drawn_leaving, drawn_leaving, drawn_own_range, drawn_found])(draw, scope)
     kind = draw.randrange(10) if depth else 0
     inner = "".join(drawn_line(draw, depth - 1, scope) for _ in range(draw.randrange(1, 3))) if depth else ""
     if kind == 0:

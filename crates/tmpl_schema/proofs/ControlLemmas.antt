@@ -12,7 +12,7 @@ use Rattle.tmpl_meaning.specs.declared.missing_key.MissingKey.{MissingKey}
 use Rattle.tmpl_shape.specs.Shape.{Shape}
 use Rattle.tmpl_shape.specs.computed.Shapes.{Base, Visit, visit_of}
 use Rattle.tmpl_schema.specs.computed.Check.{After, Known, State, Table, end_parts, past, past_parts, after_node, after_nodes, at_head, fall_through, holds_loop, in_body, in_other, settle_soon, pipeline_shape}
-use Rattle.tmpl_schema.specs.computed.View.{after_choice_by, after_range_by, ranged_by, turn_by}
+use Rattle.tmpl_schema.specs.computed.View.{after_choice_by, after_range_by, turn_by}
 
 module _ (base : Base) (m : MissingKey) (table : Table) (loop : Option Known) (h : Header) (k : State) (body other : Nodes) where
   pub choice-after : (c : Control) (s : Shape) (one two a : After) → after_nodes base m table loop None (in_body base c h k s) body ≡ Some one
@@ -20,16 +20,12 @@ module _ (base : Base) (m : MissingKey) (table : Table) (loop : Option Known) (h
       → end_parts base (fall_through table body other) k.env one two ≡ Some a → after_choice_by base m table loop c h k body other s ≡ Some a
   choice-after c s one two a is_one is_two e = rw (is_one, is_two) e
 
-  pub visit-after : (s : Shape) (v : Visit) (a : After) → visit_of base h.binding s ≡ Some v
-      → after_range_by base m table loop h k body other v ≡ Some a → ranged_by base m table loop h k body other s ≡ Some a
-  visit-after s v a is e = rw is e
-
-  pub range-is : (v : Visit) (start head : Known) (two : After) → start ≡ at_head base h k → settle_soon base (turn_by base m table h v body) start ≡ Some head
-      → after_nodes base m table loop None k other ≡ Some two
-      → after_range_by base m table loop h k body other v ≡ end_parts base (past_parts control.Range table body other) k.env (past head) two
-  range-is v start head two is a b =
+  pub range-is : (s : Shape) (v : Visit) (start head : Known) (two : After) → visit_of base h.binding s ≡ Some v → start ≡ at_head base h k
+      → settle_soon base (turn_by base m table h v body) start ≡ Some head → after_nodes base m table loop None k other ≡ Some two
+      → after_range_by base m table loop h k body other s ≡ end_parts base (past_parts control.Range table body other) k.env (past head) two
+  range-is s v start head two visit is a b =
       let found : settle_soon base (turn_by base m table h v body) (at_head base h k) ≡ Some head =
-      subst (λ (i : Known). settle_soon base (turn_by base m table h v body) i ≡ Some head) is a in rw (found, b) refl
+      subst (λ (i : Known). settle_soon base (turn_by base m table h v body) i ≡ Some head) is a in rw visit (rw (found, b) refl)
 
 pub control_seen : (c : ControlNode) → control_of c
     ≡ control_node (out-ControlNode c).control (header_of (out-ControlNode c).header) (nodes_in (out-ControlNode c).body.items) (nodes_in (out-ControlNode c).other.items)
@@ -38,9 +34,7 @@ control_seen c = search (rules, the_lemmas)
 module _ (base : Base) (m : MissingKey) (table : Table) (loop : Option Known) (k : State) where
   pub range-control : (n : NodeKind) (h : Header) (body other : Nodes) (s : Shape) → n ≡ control_node control.Range h body other
       → holds_loop loop k.env ≡ true → pipeline_shape base m k h.pipeline ≡ Some s
-      → after_node base m table loop k n ≡ ranged_by base m table loop h k body other s
+      → after_node base m table loop k n ≡ after_range_by base m table loop h k body other s
   range-control n h body other s is holds shape = rw is (rw (holds, shape) refl)
 
 pub ruleset choices = (choice-after)
-
-pub ruleset visits = (visit-after)

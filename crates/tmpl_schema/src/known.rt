@@ -1,7 +1,7 @@
 //! What is known of variables.
 #![tactic(auto, using(crate::proofs::ViewLemmas::variables))]
 
-ghost use Rattle.std.specs.Prelude.{◌≡◌, IfOk, OnOk, Some, length, ◌∷◌};
+ghost use Rattle.std.specs.Prelude.{◌≡◌, IfOk, Some, length, ◌∷◌};
 ghost use Rattle.std.specs.Option.{option_map};
 ghost use Rattle.tmpl_grammar.specs.View.{binding_of};
 ghost use Rattle.tmpl_shape.specs.View.{shape_of};

@@ -9,7 +9,7 @@ ghost use Rattle.tmpl_shape.specs.View.{shape_of};
 ghost use Rattle.tmpl_shape.specs.computed.View.{base_of, visit_seen};
 ghost use Rattle.tmpl_schema.specs.computed.Check.{after_node, after_nodes, at_head, in_body, in_other, in_turn};
 ghost use Rattle.tmpl_schema.specs.computed.Check.{pipeline_shape, settle_known, settle_soon};
-ghost use Rattle.tmpl_schema.specs.computed.View.{after_action, after_choice_by, after_of, after_range_by, known_of, known_seen, ranged_by, state_of, table_of, turn_by};
+ghost use Rattle.tmpl_schema.specs.computed.View.{after_action, after_choice_by, after_of, after_range_by, known_of, known_seen, state_of, table_of, turn_by};
 ghost use Rattle.tmpl_syntax.specs.Tree.{template_node};
 ghost use Rattle.tmpl_syntax.specs.View.{control_of, node_of, nodes_in};
 
@@ -325,46 +325,28 @@ pub(crate) fn settle_soon(
     settle(checker, 12, start, header, visit, body)
 }
 
-/// After a range that visits these.
+/// After a range over values of this shape.
 #[cycle(node)]
 fn after_range(
     checker: &Checker<'_>,
     head: Option<&Known>,
     state: &State,
     parts: &Parts<'_>,
-    visit: &Visit,
-) -> Result<After, Failure>
-    ensures { IfOk result (λ a. after_range_by (base_of checker.now.base) checker.now.mode
-        (table_of checker.now.table.now) (known_seen head.entry) (header_of parts.now.header.now)
-        (state_of state.now) (nodes_in parts.now.body.now) (nodes_in parts.now.other.now) (visit_seen visit.now)
-        ≡ Some (after_of a)) }
-{
-    let start = at_head(&checker.base, parts.header, state)?;
-    let settled_head = settle_soon(checker, &start, parts.header, visit, parts.body)?;
-    let outside = copy_state(checker.base.alloc, state)?;
-    let other = after_nodes(checker, head, outside, parts.other)?;
-    let through = past_parts(checker, Control::Range, parts.body, parts.other);
-    let settled = After::past(settled_head);
-    Ok(end_parts(&checker.base, through, &state.known, settled, other)?)
-}
-
-/// After a range over values of this shape.
-#[cycle(node)]
-#[tactic(auto, using(crate::proofs::ControlLemmas::visits))]
-fn after_ranging(
-    checker: &Checker<'_>,
-    head: Option<&Known>,
-    state: &State,
-    parts: &Parts<'_>,
     shape: &Shape,
 ) -> Result<After, Failure>
-    ensures { IfOk result (λ a. ranged_by (base_of checker.now.base) checker.now.mode
+    ensures { IfOk result (λ a. after_range_by (base_of checker.now.base) checker.now.mode
         (table_of checker.now.table.now) (known_seen head.entry) (header_of parts.now.header.now)
         (state_of state.now) (nodes_in parts.now.body.now) (nodes_in parts.now.other.now) (shape_of shape.now)
         ≡ Some (after_of a)) }
 {
     let visit = visit_of(&checker.base, &parts.header.binding, shape)?;
-    after_range(checker, head, state, parts, &visit)
+    let start = at_head(&checker.base, parts.header, state)?;
+    let settled_head = settle_soon(checker, &start, parts.header, &visit, parts.body)?;
+    let outside = copy_state(checker.base.alloc, state)?;
+    let other = after_nodes(checker, head, outside, parts.other)?;
+    let through = past_parts(checker, Control::Range, parts.body, parts.other);
+    let settled = After::past(settled_head);
+    Ok(end_parts(&checker.base, through, &state.known, settled, other)?)
 }
 
 /// After a control.
@@ -391,7 +373,7 @@ fn after_control(
     match control.control {
         Control::If => after_choice(checker, head, state, Control::If, &parts, &shape),
         Control::With => after_choice(checker, head, state, Control::With, &parts, &shape),
-        Control::Range => after_ranging(checker, head, state, &parts, &shape),
+        Control::Range => after_range(checker, head, state, &parts, &shape),
     }
 }
 

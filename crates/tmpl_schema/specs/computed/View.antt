@@ -124,22 +124,17 @@ after_action base m k h =
 abbrev pub turn_by : computed.Base → MissingKey → Table → Header → computed.Visit → Nodes → Known → Option Known
 turn_by base m table h v body = turn_known base h v (λ l u. after_nodes base m table l None u body)
 
--- after an `if` or a `with`, and after a range that visits these, by their nodes
+-- after an `if` or a `with`, and after a range, by their nodes
 abbrev pub after_choice_by :
     computed.Base → MissingKey → Table → Option Known → Control → Header → State → Nodes → Nodes → spec.Shape → Option After
 after_choice_by base m table loop c h k body other s =
     after_choice base (fall_through table body other) c h k (λ u. after_nodes base m table loop None u body) (λ u. after_nodes base m table loop None u other) s
 
 abbrev pub after_range_by :
-    computed.Base → MissingKey → Table → Option Known → Header → State → Nodes → Nodes → computed.Visit → Option After
-after_range_by base m table loop h k body other v =
-    after_range base (past_parts control.Range table body other) h k (λ l u. after_nodes base m table l None u body)
-    (λ u. after_nodes base m table loop None u other) v
-
-abbrev pub ranged_by :
     computed.Base → MissingKey → Table → Option Known → Header → State → Nodes → Nodes → spec.Shape → Option After
-ranged_by base m table loop h k body other s =
-    option_and_then (after_range_by base m table loop h k body other) (visit_of base h.binding s)
+after_range_by base m table loop h k body other s =
+    option_and_then (after_range base (past_parts control.Range table body other) h k (λ l u. after_nodes base m table l None u body)
+    (λ u. after_nodes base m table loop None u other)) (visit_of base h.binding s)
 
 -- the entries of a table
 abbrev pub entries_of : List held_entry.Entry → List (List ℕ × Callee)

@@ -35,8 +35,8 @@ after_range-returns t c =
     subst (λ (i : State). after_nodes base m table loop None i other ≡ Some (after_of c.in_ok-other.other)) c.in_ok-outside.ensures c.in_ok-other.ensures in
     let head = known_of c.in_ok-settled_head.settled_head in
     let settled : after_of c.past-settled.result ≡ past head = c.past-settled.ensures in
-    range-is base m table loop h k body other (visit_seen c.args.visit.now) (known_of c.in_ok-start.start) head
-    (after_of c.in_ok-other.other) c.in_ok-start.ensures c.in_ok-settled_head.ensures two
+    range-is base m table loop h k body other (shape_of c.args.shape.now) (visit_seen c.in_ok-visit.visit) (known_of c.in_ok-start.start) head
+    (after_of c.in_ok-other.other) c.in_ok-visit.ensures c.in_ok-start.ensures c.in_ok-settled_head.ensures two
     ∙ subst (λ (a : After). end_parts base (past_parts control.Range table body other) k.env a (after_of c.in_ok-other.other)
     ≡ Some (after_of c.in_ok-end_parts.field-0)) settled
     (subst (λ (w : FallThrough). end_parts base w k.env (after_of c.past-settled.result) (after_of c.in_ok-other.other)
@@ -55,5 +55,5 @@ after_control-returns t c =
     let seen : control_of c.args.control.now ≡ control_node control.Range h body other = rw (control_seen c.args.control.now) (search rules) in
     let holds : holds_loop loop k.env ≡ true = search rules in
     let shape : pipeline_shape base m k h.pipeline ≡ Some (shape_of c.in_ok-shape.shape) = search rules in
-    subst (λ (o : Option After). IfOk c.after_ranging.result (λ a. o ≡ Some (after_of a)))
-    (sym (range-control base m table loop k (control_of c.args.control.now) h body other (shape_of c.in_ok-shape.shape) seen holds shape)) c.after_ranging.ensures
+    subst (λ (o : Option After). IfOk c.after_range.result (λ a. o ≡ Some (after_of a)))
+    (sym (range-control base m table loop k (control_of c.args.control.now) h body other (shape_of c.in_ok-shape.shape) seen holds shape)) c.after_range.ensures

@@ -35,6 +35,3 @@ invariant-after_nodes-loop-node l =
     after_nodes (base_of l.checker.base) l.checker.mode (table_of l.checker.table.now) (known_seen l.head) None (state_of l.initial.state) (nodes_in l.nodes)
     ≡ after_nodes (base_of l.checker.base) l.checker.mode (table_of l.checker.table.now) (known_seen l.head) (left_of l.left) (state_of l.state)
     (nodes_in (drop l.node-index l.nodes))
-
-abbrev pub decreases-after_ranging : goal.decreases-after_ranging
-decreases-after_ranging l = 60 * (nodes_weight (nodes_in l.parts.now.body.now) + nodes_weight (nodes_in l.parts.now.other.now)) + 31
