@@ -47,7 +47,7 @@ TRIED = {
         " data_problem_by_another_rule errors_only_where_all_are note_told_as_an_error line_and_column_exchanged key_without_quotes"
     ),
     "tmpl_report": "another_fault_said limit_told_for_a_doubt",
-    "tmpl_schema": "a_join_that_keeps_one_side a_part_that_may_end_taken_for_the_other",
+    "tmpl_schema": "a_join_that_keeps_one_side a_part_that_may_end_taken_for_the_other what_a_break_leaves_forgotten",
     "tmpl_shape": "each_field_required a_boolean_taken_for_the_other",
 }
 MEMORY = 4_000_000_000  # bytes, more than a check of some functions takes

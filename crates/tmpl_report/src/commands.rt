@@ -84,9 +84,9 @@ impl<'w> Scope<'w> {
     }
 }
 
-/// A walk over a template.
+/// A search for commands in a template.
 #[derive(Drop)]
-struct Walk<'w> {
+struct CommandSearch<'w> {
     alloc: Global,
     line: u64,
     wanted: Wanted<'w>,
@@ -107,7 +107,7 @@ pub(crate) fn commands_at<'w>(
     wanted: Wanted<'w>,
     start: Option<&'w Value>,
 ) -> Result<Vec<Found<'w>>> {
-    let mut walk = Walk {
+    let mut search = CommandSearch {
         alloc,
         line,
         wanted,
@@ -120,8 +120,8 @@ pub(crate) fn commands_at<'w>(
         dot: start,
         is_sure: true,
     };
-    walk.visit_all(tree.nodes.as_slice(), scope, MOST_LEVELS)?;
-    Ok(walk.found)
+    search.visit_all(tree.nodes.as_slice(), scope, MOST_LEVELS)?;
+    Ok(search.found)
 }
 
 /// What is looked for among nodes.
@@ -214,7 +214,7 @@ fn only_operand(command: &Command) -> Option<&Operand> {
     }
 }
 
-impl<'w> Walk<'w> {
+impl<'w> CommandSearch<'w> {
     /// Visits nodes.
     #[cycle(nodes)]
     fn visit_all(&mut self, nodes: &'w [Node], scope: Scope<'w>, levels: usize) -> Result<()> {

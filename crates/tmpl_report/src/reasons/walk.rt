@@ -92,7 +92,7 @@ fn widen(known: &mut Option<Provenance>, more: &Option<Provenance>) -> Result<bo
 
 /// What is looked for among the commands of an action.
 #[derive(Clone, Copy)]
-enum Wanted<'w> {
+enum Subject<'w> {
     /// The values that are asked for the field of this name.
     Field(&'w [u8]),
     /// The lists of which the function needs this many items.
@@ -101,20 +101,20 @@ enum Wanted<'w> {
 
 /// What the alarm of this index speaks of.
 #[derive(Clone, Copy)]
-struct Sought<'w> {
+struct Topic<'w> {
     index: usize,
-    wanted: Wanted<'w>,
+    subject: Subject<'w>,
 }
 
-impl<'w> Sought<'w> {
+impl<'w> Topic<'w> {
     /// What a cause speaks of.
-    fn of(index: usize, cause: &'w Cause) -> Option<Sought<'w>> {
-        let wanted = match cause {
-            Cause::Absent(name) | Cause::NoFields(name, _) => Wanted::Field(name.as_slice()),
-            Cause::FewItems(func, count) => Wanted::Items(*func, *count),
+    fn of(index: usize, cause: &'w Cause) -> Option<Topic<'w>> {
+        let subject = match cause {
+            Cause::Absent(name) | Cause::NoFields(name, _) => Subject::Field(name.as_slice()),
+            Cause::FewItems(func, count) => Subject::Items(*func, *count),
             _ => return None,
         };
-        Some(Sought { index, wanted })
+        Some(Topic { index, subject })
     }
 }
 
@@ -233,11 +233,11 @@ impl<'w> Walk<'w> {
     /// Looks for what an alarm speaks of among the fields of a value.
     fn look_at(
         &mut self,
-        sought: Sought<'_>,
+        topic: Topic<'_>,
         start: Result<Provenance, Lost>,
         names: &[Bytes],
     ) -> Result<()> {
-        let Wanted::Field(wanted) = sought.wanted else {
+        let Subject::Field(wanted) = topic.subject else {
             return Ok(());
         };
         let mut provenance = start;
@@ -248,7 +248,7 @@ impl<'w> Walk<'w> {
                 Err(lost) => Err(*lost),
             };
             if name.as_slice() == wanted {
-                self.ask(sought.index, before)?;
+                self.ask(topic.index, before)?;
             }
         }
         Ok(())
@@ -277,9 +277,9 @@ impl<'w> Walk<'w> {
     }
 
     /// Looks whether a command calls the function that needs this many items of a list.
-    fn look_call(&mut self, levels: usize, sought: Sought<'_>, operands: &[Operand]) -> Result<()> {
-        let (Wanted::Items(func, count), [Operand::Function(called), list, rest @ ..]) = (
-            sought.wanted,
+    fn look_call(&mut self, levels: usize, topic: Topic<'_>, operands: &[Operand]) -> Result<()> {
+        let (Subject::Items(func, count), [Operand::Function(called), list, rest @ ..]) = (
+            topic.subject,
             operands,
         ) else {
             return Ok(());
@@ -289,24 +289,24 @@ impl<'w> Walk<'w> {
         }
         let start = self.operand(levels, list);
         match rest {
-            keys if func == Func::Index => self.look_along(sought.index, count, start, keys),
-            [.., last] if is_number(last, count) => self.ask(sought.index, if_whole(start)),
+            keys if func == Func::Index => self.look_along(topic.index, count, start, keys),
+            [.., last] if is_number(last, count) => self.ask(topic.index, if_whole(start)),
             _ => Ok(()),
         }
     }
 
     /// Looks for what an alarm speaks of in commands.
     #[cycle(look)]
-    fn look_into(&mut self, levels: usize, sought: Sought<'_>, commands: &[Command]) -> Result<()> {
+    fn look_into(&mut self, levels: usize, topic: Topic<'_>, commands: &[Command]) -> Result<()> {
         if levels == 0 {
-            return self.ask(sought.index, Err(Lost::Untold));
+            return self.ask(topic.index, Err(Lost::Untold));
         }
         let fewer = levels - 1;
         for command in commands {
             let operands = command.operands.as_slice();
-            self.look_call(fewer, sought, operands)?;
+            self.look_call(fewer, topic, operands)?;
             for operand in operands {
-                self.look_operand(fewer, sought, operand)?;
+                self.look_operand(fewer, topic, operand)?;
             }
         }
         Ok(())
@@ -314,17 +314,17 @@ impl<'w> Walk<'w> {
 
     /// Looks for what an alarm speaks of in an operand.
     #[cycle(look)]
-    fn look_operand(&mut self, levels: usize, sought: Sought<'_>, operand: &Operand) -> Result<()> {
+    fn look_operand(&mut self, levels: usize, topic: Topic<'_>, operand: &Operand) -> Result<()> {
         let (start, fields) = match operand {
             Operand::Fields(fields) => (copy(&self.dot), fields),
             Operand::Variable { name, fields } => (self.variable(name.as_slice()), fields),
             Operand::Group { commands, fields } => {
-                self.look_into(levels, sought, commands.as_slice())?;
+                self.look_into(levels, topic, commands.as_slice())?;
                 (self.pipeline(levels, commands.as_slice()), fields)
             }
             _ => return Ok(()),
         };
-        self.look_at(sought, start, fields.as_slice())
+        self.look_at(topic, start, fields.as_slice())
     }
 
     /// Looks for what the alarms speak of in the pipeline of an action that begins after this many bytes, which may be
@@ -344,8 +344,8 @@ impl<'w> Walk<'w> {
             if is_range && matches!(doubt.cause, Cause::Range(_)) {
                 let found = self.pipeline(LEVELS, commands);
                 self.ask(index, found)?;
-            } else if let Some(sought) = Sought::of(index, &doubt.cause) {
-                self.look_into(LEVELS, sought, commands)?;
+            } else if let Some(topic) = Topic::of(index, &doubt.cause) {
+                self.look_into(LEVELS, topic, commands)?;
             }
         }
         if_told(self.pipeline(LEVELS, commands))

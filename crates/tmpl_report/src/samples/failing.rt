@@ -39,9 +39,9 @@ pub(crate) const MOST_TEXT: usize = 1_000_000;
 /// The most bytes of a value that is shown.
 const MOST_SHOWN: usize = 500;
 
-/// What is asked: a template of a set, the document that its data conform to, and what may be a fault.
+/// A template that may fail, with the document that its data conform to and the alarms.
 #[derive(Drop)]
-pub(crate) struct Question<'q> {
+pub(crate) struct Suspect<'q> {
     pub(crate) alloc: Global,
     pub(crate) renderer: &'q Renderer,
     pub(crate) name: &'q [u8],
@@ -154,7 +154,7 @@ pub(crate) fn said_of(alloc: Global, kind: &RunFaultKind<'_>) -> Result<String>
     }
 }
 
-impl Question<'_> {
+impl Suspect<'_> {
     /// Renders the template over data.
     pub(crate) fn render<'a>(
         &'a self,

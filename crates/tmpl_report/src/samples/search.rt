@@ -6,7 +6,7 @@ ghost use Rattle.tmpl_syntax.specs.View.{set_view};
 ghost use Rattle.tmpl_report.specs.Failing.{AreRight, rules_by};
 
 use crate::Result;
-use crate::samples::failing::{Failure, MOST_TEXT, Nowhere, Question, is_doubted};
+use crate::samples::failing::{Failure, MOST_TEXT, Nowhere, Suspect, is_doubted};
 use crate::samples::smaller::without;
 use serde_json::Value;
 use std::alloc::{AllocError, Global};
@@ -89,14 +89,14 @@ struct Trial {
 /// A search: for each alarm a value for which it is right, and how much may still be done.
 #[derive(Drop)]
 struct Hunt<'h, 'q> {
-    question: &'h Question<'q>,
+    suspect: &'h Suspect<'q>,
     cases: Vec<Option<Value>>,
     missing: usize,
     budget: Budget,
     work: usize,
 }
 
-impl Question<'_> {
+impl Suspect<'_> {
     /// Renders the template over a value, if that conforms. Gives what comes of it: of one alarm alone, where it is
     /// asked for.
     fn outcome(&self, value: &Value, only: Option<usize>) -> Result<Outcome> {
@@ -173,12 +173,12 @@ impl Question<'_> {
 impl Hunt<'_, '_> {
     /// Makes the value of these choices, and renders the template over it.
     fn try_flips(&mut self, is_lean: bool, flips: &[Flip]) -> Result<Trial> {
-        let mut draw = Draw::new(self.question.alloc, self.question.root, is_lean, flips);
+        let mut draw = Draw::new(self.suspect.alloc, self.suspect.root, is_lean, flips);
         let drawn = draw.whole()?;
         self.work = self.work.saturating_sub(draw.parts);
         let Draw { counts, .. } = draw;
         let outcome = match &drawn {
-            Some(value) => self.question.outcome(value, None)?,
+            Some(value) => self.suspect.outcome(value, None)?,
             None => NO_RUN,
         };
         self.budget = self.budget.after(outcome);
@@ -218,7 +218,7 @@ impl Hunt<'_, '_> {
 
     /// Goes from value to value over which the template comes farther, and looks around each; at last two steps.
     fn climb(&mut self, is_lean: bool) -> Result<()> {
-        let mut flips: Vec<Flip> = Vec::new(self.question.alloc);
+        let mut flips: Vec<Flip> = Vec::new(self.suspect.alloc);
         for _ in 0..MOST_ROUNDS {
             if !self.sweep(is_lean, &mut flips)? {
                 break;
@@ -255,10 +255,10 @@ impl Hunt<'_, '_> {
 }
 
 /// Searches for a value for each alarm, first from little data, then from much, and makes it smaller.
-fn values_found(question: &Question<'_>) -> Result<Vec<Option<Value>>> {
+fn values_found(suspect: &Suspect<'_>) -> Result<Vec<Option<Value>>> {
     let mut hunt = Hunt {
-        question,
-        cases: Vec::new(question.alloc),
+        suspect,
+        cases: Vec::new(suspect.alloc),
         missing: 0,
         budget: Budget {
             renders: MOST_TRIES,
@@ -266,7 +266,7 @@ fn values_found(question: &Question<'_>) -> Result<Vec<Option<Value>>> {
         },
         work: MOST_WORK,
     };
-    for doubt in question.doubts {
+    for doubt in suspect.doubts {
         hunt.cases.push(None)?;
         if !matches!(doubt.cause, Cause::Variables) {
             hunt.missing = hunt.missing.saturating_add(1);
@@ -276,14 +276,14 @@ fn values_found(question: &Question<'_>) -> Result<Vec<Option<Value>>> {
     hunt.budget.renders = MOST_TRIES;
     hunt.climb(false)?;
     let Hunt { cases, .. } = hunt;
-    let mut values = Vec::new(question.alloc);
+    let mut values = Vec::new(suspect.alloc);
     let mut budget = Budget {
         renders: MOST_ALL_SMALLER,
         bytes: MOST_SMALLER_BYTES,
     };
     for (index, case) in cases.into_iter().enumerate() {
         values.push(match case {
-            Some(case) => Some(question.smaller(index, case, &mut budget)?),
+            Some(case) => Some(suspect.smaller(index, case, &mut budget)?),
             None => None,
         })?;
     }
@@ -321,7 +321,7 @@ pub fn failures_of(
     }) doubts.now failures.items) }
 {
     let renderer = Renderer::new(alloc, set)?;
-    let question = Question {
+    let suspect = Suspect {
         alloc,
         renderer: &renderer,
         name,
@@ -330,6 +330,6 @@ pub fn failures_of(
         stops,
         doubts,
     };
-    let values = values_found(&question)?;
-    question.failures(values)
+    let values = values_found(&suspect)?;
+    suspect.failures(values)
 }

@@ -1,5 +1,5 @@
 use Rattle.std.proofs.Common.{◌+◌, ◌*◌}
-use Rattle.tmpl_report.proofs.commands.Walk.+commands.Given as goal
+use Rattle.tmpl_report.proofs.commands.CommandSearch.+commands.Given as goal
 
 abbrev pub decreases-commands : goal.decreases-commands
 decreases-commands l = 2 * l.levels

@@ -1,4 +1,4 @@
-use Rattle.tmpl_report.proofs.commands.Walk.+value.Given as goal
+use Rattle.tmpl_report.proofs.commands.CommandSearch.+value.Given as goal
 
 abbrev pub decreases-value : goal.decreases-value
 decreases-value l = l.levels

@@ -5,7 +5,7 @@ use Rattle.tmpl_json_schema.specs.Document.{IsOfSchema}
 use Rattle.tmpl_json_schema.proofs.ConformLemmas.{if-some}
 use Rattle.tmpl_json_schema.proofs.DocumentLemmas.{document-read}
 use Rattle.tmpl_report.proofs.FailureLemmas.{value-read}
-use Rattle.tmpl_report.proofs.samples.failing.Question.is_of_schema.Goals as goal
+use Rattle.tmpl_report.proofs.samples.failing.Suspect.is_of_schema.Goals as goal
 
 pub returns-in-Ok : goal.returns-in-Ok
 returns-in-Ok c = λ e v is.

@@ -1,5 +1,5 @@
 use Rattle.std.proofs.Common.{◌+◌, ◌*◌}
-use Rattle.tmpl_report.proofs.commands.Walk.+nodes.Given as goal
+use Rattle.tmpl_report.proofs.commands.CommandSearch.+nodes.Given as goal
 
 abbrev pub decreases-visit_all : goal.decreases-visit_all
 decreases-visit_all l = 4 * l.levels

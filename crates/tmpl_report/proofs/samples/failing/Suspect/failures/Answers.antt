@@ -4,7 +4,7 @@ use Rattle.tmpl_schema.specs.declared.failure.Doubt.{Doubt}
 use Rattle.tmpl_report.specs.Failing.{AreRight}
 use Rattle.tmpl_report.specs.computed.Asked.{asked_in}
 use Rattle.tmpl_report.proofs.FailureLemmas.{right_more}
-use Rattle.tmpl_report.proofs.samples.failing.Question.failures.Goals as goal
+use Rattle.tmpl_report.proofs.samples.failing.Suspect.failures.Goals as goal
 
 pub loop-doubt-preserved : goal.loop-doubt-preserved
 loop-doubt-preserved c =
