@@ -11,7 +11,7 @@ use Rattle.tmpl_syntax.specs.declared.tree.ControlNode.{ControlNode, out-Control
 use Rattle.tmpl_meaning.specs.declared.missing_key.MissingKey.{MissingKey}
 use Rattle.tmpl_shape.specs.Shape.{Shape}
 use Rattle.tmpl_shape.specs.computed.Shapes.{Base, Visit, visit_of}
-use Rattle.tmpl_schema.specs.computed.Check.{After, Known, State, Table, end_parts, past, past_parts, after_node, after_nodes, at_head, fall_through, holds_loop, in_body, in_other, settle_soon, pipeline_shape}
+use Rattle.tmpl_schema.specs.computed.Check.{After, Known, Origin, State, Table, end_parts, past, past_parts, after_node, after_nodes, at_head, fall_through, holds_loop, in_body, in_other, settle_soon, pipeline_origin, pipeline_shape}
 use Rattle.tmpl_schema.specs.computed.View.{after_choice_by, after_range_by, turn_by}
 
 module _ (base : Base) (m : MissingKey) (table : Table) (loop : Option Known) (h : Header) (k : State) (body other : Nodes) where
@@ -20,12 +20,16 @@ module _ (base : Base) (m : MissingKey) (table : Table) (loop : Option Known) (h
       → end_parts base (fall_through table body other) k.env one two ≡ Some a → after_choice_by base m table loop c h k body other s ≡ Some a
   choice-after c s one two a is_one is_two e = rw (is_one, is_two) e
 
-  pub range-is : (s : Shape) (v : Visit) (start head : Known) (two : After) → visit_of base h.binding s ≡ Some v → start ≡ at_head base h k
-      → settle_soon base (turn_by base m table h v body) start ≡ Some head → after_nodes base m table loop None k other ≡ Some two
+  pub range-is : (s : Shape) (v : Visit) (start head : Known) (over : Origin) (two : After) → visit_of base h.binding s ≡ Some v → start ≡ at_head base h k
+      → over ≡ pipeline_origin k h.pipeline → settle_soon base (turn_by base m table h v over body) start ≡ Some head
+      → after_nodes base m table loop None k other ≡ Some two
       → after_range_by base m table loop h k body other s ≡ end_parts base (past_parts control.Range table body other) k.env (past head) two
-  range-is s v start head two visit is a b =
-      let found : settle_soon base (turn_by base m table h v body) (at_head base h k) ≡ Some head =
-      subst (λ (i : Known). settle_soon base (turn_by base m table h v body) i ≡ Some head) is a in rw visit (rw (found, b) refl)
+  range-is s v start head over two visit is from a b =
+      let o : Origin = pipeline_origin k h.pipeline in
+      let there : settle_soon base (turn_by base m table h v o body) start ≡ Some head =
+      subst (λ (i : Origin). settle_soon base (turn_by base m table h v i body) start ≡ Some head) from a in
+      let found : settle_soon base (turn_by base m table h v o body) (at_head base h k) ≡ Some head =
+      subst (λ (i : Known). settle_soon base (turn_by base m table h v o body) i ≡ Some head) is there in rw visit (rw (found, b) refl)
 
 pub control_seen : (c : ControlNode) → control_of c
     ≡ control_node (out-ControlNode c).control (header_of (out-ControlNode c).header) (nodes_in (out-ControlNode c).body.items) (nodes_in (out-ControlNode c).other.items)

@@ -27,8 +27,8 @@ use Rattle.tmpl_shape.specs.computed.Calls.{shape_by_function}
 use Rattle.tmpl_shape.specs.computed.Formats.{printf_shape}
 use Rattle.tmpl_schema.specs.Safe.{Covers}
 use Rattle.tmpl_schema.specs.computed.Check.{absent_field, Known, State, Callee, handed, absent, Table, Checked, variable_shape}
-use Rattle.tmpl_schema.specs.computed.Check.{alone, key_of, text_of, deciding_shape, passing_shape, passed}
-use Rattle.tmpl_schema.specs.computed.Check.{entry_by, entry_for}
+use Rattle.tmpl_schema.specs.computed.Check.{alone, text_of, deciding_shape, passing_shape, passed}
+use Rattle.tmpl_schema.specs.computed.Check.{Origin, entry_at, entry_by, operand_origin, pipeline_origin}
 use Rattle.tmpl_schema.specs.computed.Check.{operand_shape, operand_shapes, junction_shape, entry_along, indexed_shape}
 use Rattle.tmpl_schema.specs.computed.Check.{sliced_shape, printed_shape, command_shape, commands_shape, pipeline_shape}
 use Rattle.tmpl_schema.specs.computed.Check.{After, all_within, end_parts, join_all, join_left, past, settle_known, settle_soon, with_left, last_of}
@@ -132,19 +132,19 @@ module _ (base : Base) (m : MissingKey) where
         (λ t. both-keeps base (Some (deciding_shape base is_or t)) (Some (deciding_shape base is_or t)) _ _ refl
         (junction-keeps os is_or (passed base is_or o k) (passing_shape base is_or t) piped)) (operand-keeps o k)
 
-    along-keeps : (os : Operands) (k : State) (piped : Option Shape) (s : Shape)
-        → Keeps (entry_along base Error k os piped s) (entry_along base m k os piped s)
-    along-keeps no_operand k None s = refl
-    along-keeps no_operand k (Some key) s = keeps-same (entry_by base key s)
-    along-keeps (operand o os) k piped s =
-        then-keeps _ _ _ _ (λ key. same-keeps _ _ (entry_for base (key_of o) key s) (along-keeps os k piped))
+    along-keeps : (os : Operands) (k : State) (piped : Option Shape) (from : Origin) (s : Shape)
+        → Keeps (entry_along base Error k os piped from s) (entry_along base m k os piped from s)
+    along-keeps no_operand k None from s = refl
+    along-keeps no_operand k (Some key) from s = keeps-same (entry_by base key s)
+    along-keeps (operand o os) k piped from s =
+        then-keeps _ _ _ _ (λ key. same-keeps _ _ (entry_at base k o from key s) (along-keeps os k piped None))
         (operand-keeps o k)
 
     indexed-keeps : (os : Operands) (k : State) (piped : Option Shape)
         → Keeps (indexed_shape base Error k os piped) (indexed_shape base m k os piped)
     indexed-keeps no_operand k piped = tt
     indexed-keeps (operand o os) k piped =
-        then-keeps _ _ _ _ (λ s. if-keeps (has_kind base Blank s) None None _ _ tt (along-keeps os k piped s))
+        then-keeps _ _ _ _ (λ s. if-keeps (has_kind base Blank s) None None _ _ tt (along-keeps os k piped (operand_origin k o) s))
         (operand-keeps o k)
 
     sliced-keeps : (os : Operands) (k : State) (piped : Option Shape)
@@ -209,7 +209,7 @@ module _ (base : Base) where
         → KeepsEach other rest → (v : Visit) → Keeps (after_range base w h k f other v) (after_range base w h k g rest v)
     range-keeps w f g other rest in_f in_rest v =
         then-keeps _ _ _ _ (λ head. then-keeps _ _ _ _ (λ b. keeps-same (end_parts base w k.env (past head) b)) (in_rest k))
-        (soon-keeps (turn_known base h v f) (turn_known base h v g)
+        (soon-keeps (turn_known base h v (pipeline_origin k h.pipeline) f) (turn_known base h v (pipeline_origin k h.pipeline) g)
         (λ ks. then-keeps _ _ _ _ (λ a. keeps-same (with_left base (last_of (length ks) a.env) a.left)) (in_f (Some ks) _)) (at_head base h k))
 
     control-keeps : (w : FallThrough) (c : Control) (loop : Option Known) (f g : Option Known → Checked) (other rest : Checked)

@@ -1,9 +1,11 @@
 -- For the law `runs_safely`: chains of fields, and the values at their ends, whatever the mode for missing keys.
-use Rattle.std.proofs.Common.{◌≡◌, ◌∙◌, ◌++◌, Bool, true, false, List, [], ◌∷◌, ℕ, Some, None, Result, Ok, Err, ap, refl, sym, subst, if◌then◌else◌}
+use Rattle.std.proofs.Common.{◌≡◌, ◌∙◌, ◌++◌, ◌<◌, Bool, true, false, List, [], ◌∷◌, length, ℕ, Some, None, IsSome, Result, Ok, Err, ap, refl, sym, subst, if◌then◌else◌}
+use Rattle.std.specs.Prelude.{pos}
+use Rattle.tmpl_values.specs.Elements.{values_of_items}
 use Rattle.std.proofs.lemmas.Bool.{false≢true, and_parts}
 use Rattle.std.specs.Str.{bytes_eq}
 use Rattle.tmpl_values.specs.Value.{Value, nothing, null, boolean, number, string, sequence, mapping}
-use Rattle.tmpl_values.specs.Field.{FieldValue, found, missing, of_nothing, no_field, field_at}
+use Rattle.tmpl_values.specs.Field.{FieldValue, entry_at, found, missing, of_nothing, no_field, field_at}
 use Rattle.tmpl_values.specs.Stage.{and_then}
 use Rattle.tmpl_values.specs.Compare.{is_nothing}
 use Rattle.tmpl_meaning.specs.Fault.{Cause}
@@ -11,7 +13,7 @@ use Rattle.tmpl_meaning.specs.Pipeline.{chain, field_value, without_null}
 use Rattle.tmpl_meaning.specs.declared.missing_key.MissingKey.{MissingKey}
 use Rattle.tmpl_meaning.specs.declared.missing_key.MissingKey.TheVariants as mode
 use Rattle.tmpl_shape.proofs.ShapeLemmas.{same_name}
-use Rattle.tmpl_schema.specs.computed.Check.{Origin, is_path, join_origins, origin_within, rest_of}
+use Rattle.tmpl_schema.specs.computed.Check.{Origin, Tie, untied, valued, keyed, is_path, join_ties, key_tie, owner_of, path_of, rest_of, tie_of, tie_within}
 
 -- fields of nothing and of null are nothing or null, and so are those that are missing
 nothing-ends : (m : MissingKey) (ns : List (List ℕ)) (x : Value) → chain m ns nothing ≡ Ok x → is_nothing x ≡ true
@@ -138,22 +140,67 @@ abbrev pub HasOrigin : Value → Origin → Value → Type 0
 HasOrigin top None x = Unit {0}
 HasOrigin top (Some ps) x = IsAt ps top x
 
-pub origin_within-has : (top : Value) (o p : Origin) (x : Value) → origin_within o p ≡ true → HasOrigin top o x → HasOrigin top p x
-origin_within-has top o None x e h = tt
-origin_within-has top None (Some ns) x e h = absurd (false≢true e)
-origin_within-has top (Some ps) (Some ns) x e h = subst (λ (qs : List (List ℕ)). IsAt qs top x) (is_path-same ps ns e) h
+-- ---- ties
+
+-- what a range over a value visits it by
+abbrev pub IsKeyOf : Value → Value → Type 0
+IsKeyOf (sequence vs) (number (pos i)) = i < length (values_of_items vs)
+IsKeyOf (mapping es) (string k) = IsSome (entry_at k es)
+IsKeyOf (number n) x = Unit {0}
+IsKeyOf u x = ⊥
+
+abbrev pub HasTie : Value → Tie → Value → Type 0
+HasTie top untied x = Unit {0}
+HasTie top (valued ps) x = IsAt ps top x
+HasTie top (keyed ps) x = (u : Value) → IsAt ps top u → is_nothing u ≡ false → IsKeyOf u x
+
+pub tied : (top : Value) (o : Origin) (x : Value) → HasOrigin top o x → HasTie top (tie_of o) x
+tied top None x h = tt
+tied top (Some ps) x h = h
+
+pub path-has : (top : Value) (t : Tie) (x : Value) → HasTie top t x → HasOrigin top (path_of t) x
+path-has top untied x h = tt
+path-has top (valued ps) x h = h
+path-has top (keyed ps) x h = tt
+
+pub owner-has : (top : Value) (t : Tie) (x : Value) → HasTie top t x → HasTie top (key_tie (owner_of t)) x
+owner-has top untied x h = tt
+owner-has top (valued ps) x h = tt
+owner-has top (keyed ps) x h = h
+
+pub tie_within-has : (top : Value) (t u : Tie) (x : Value) → tie_within t u ≡ true → HasTie top t x → HasTie top u x
+tie_within-has top t untied x e h = tt
+tie_within-has top (valued ps) (valued ns) x e h = subst (λ (qs : List (List ℕ)). IsAt qs top x) (is_path-same ps ns e) h
+tie_within-has top (keyed ps) (keyed ns) x e h = subst (λ (qs : List (List ℕ)). HasTie top (keyed qs) x) (is_path-same ps ns e) h
+tie_within-has top untied (valued ns) x e h = absurd (false≢true e)
+tie_within-has top (keyed ps) (valued ns) x e h = absurd (false≢true e)
+tie_within-has top untied (keyed ns) x e h = absurd (false≢true e)
+tie_within-has top (valued ps) (keyed ns) x e h = absurd (false≢true e)
 
 -- what is known of one of two is known of both
-pub origins-left : (top : Value) (o p : Origin) (x : Value) → HasOrigin top o x → HasOrigin top (join_origins o p) x
-origins-left top o p x h = by (origin_within o p) refl
+pub ties-left : (top : Value) (t u : Tie) (x : Value) → HasTie top t x → HasTie top (join_ties t u) x
+ties-left top t u x h = by (tie_within t u) refl
   where
-    by : (b : Bool) → origin_within o p ≡ b → HasOrigin top (if b then p else None) x
-    by true e = origin_within-has top o p x e h
+    by : (b : Bool) → tie_within t u ≡ b → HasTie top (if b then u else untied) x
+    by true e = tie_within-has top t u x e h
     by false e = tt
 
-pub origins-right : (top : Value) (o p : Origin) (x : Value) → HasOrigin top p x → HasOrigin top (join_origins o p) x
-origins-right top o p x h = by (origin_within o p)
+pub ties-right : (top : Value) (t u : Tie) (x : Value) → HasTie top u x → HasTie top (join_ties t u) x
+ties-right top t u x h = by (tie_within t u)
   where
-    by : (b : Bool) → HasOrigin top (if b then p else None) x
+    by : (b : Bool) → HasTie top (if b then u else untied) x
     by true = h
     by false = tt
+
+-- an index or a key of a value at a chain is one of what is there
+pub key-tied : (top : Value) (o : Origin) (v x : Value) → HasOrigin top o v → is_nothing v ≡ false → IsKeyOf v x → HasTie top (key_tie o) x
+key-tied top None v x h t k = tt
+key-tied top (Some ps) v x h t k =
+    λ u at there. subst (λ (w : Value). IsKeyOf w x) (at.0 mode.Error v (h.1 t mode.Error) t) k
+
+-- .. and the other way round
+pub is-key : (top : Value) (ps : List (List ℕ)) (v x : Value) → HasTie top (keyed ps) x → IsAt ps top v → is_nothing v ≡ false → IsKeyOf v x
+is-key top ps v x h at there = h v at there
+
+pub path-same : (ps ns : List (List ℕ)) → is_path ps ns ≡ true → ps ≡ ns
+path-same ps ns e = is_path-same ps ns e

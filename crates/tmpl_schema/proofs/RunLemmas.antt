@@ -2,14 +2,19 @@
 -- shapes that are computed.
 use Rattle.std.specs.Prelude.{◌++◌, ℤ, pos, not, Contains}
 use Rattle.std.specs.Ordering.{int_eq}
-use Rattle.std.proofs.Common.{inl, inr, rules, ◌≡◌, ◌-◌, ◌≤◌, ◌||◌, ℕ, zero, suc, nat_eq, Bool, true, false, List, [], ◌∷◌, Option, Some, None, Result, Ok, Err, IfSome, length, ap, refl, sym, subst, ◌∙◌, if◌then◌else◌}
+use Rattle.std.proofs.Common.{inl, inr, rules, ◌≡◌, ◌-◌, ◌≤◌, ◌||◌, ℕ, zero, suc, nat_eq, Bool, true, false, List, [], ◌∷◌, Option, Some, None, Result, Ok, Err, IfSome, IsSome, arith, ◌+◌, length, map, ap, refl, sym, subst, ◌∙◌, if◌then◌else◌}
 use Rattle.std.proofs.lemmas.Bool.{false≢true}
 use Rattle.std.proofs.lemmas.Bool.Decides.{Decides-int_eq}
+use Rattle.std.proofs.lemmas.Slice.Eq.{bytes_eq-Decides}
 use Rattle.std.proofs.lemmas.Option.{cond_some, option_and_then_some}
 use Rattle.std.specs.Option.{option_and_then, option_map, option_map_or}
-use Rattle.tmpl_values.specs.Value.{Value, nothing, null, boolean, number, string, sequence, mapping, no_item, item, no_entry, entry}
-use Rattle.tmpl_values.specs.Elements.{Element, elements, elements_of_entries, values_of_items}
+use Rattle.tmpl_values.specs.Value.{Value, nothing, null, boolean, number, string, sequence, mapping, Items, no_item, item, Entries, no_entry, entry}
+use Rattle.tmpl_values.specs.Elements.{Element, elements, elements_of_entries, pairs, values_of_items}
 use Rattle.tmpl_values.specs.Truth.{truth}
+use Rattle.tmpl_values.specs.Compare.{is_nothing}
+use Rattle.tmpl_values.specs.Field.{entry_at}
+use Rattle.std.specs.List.{enumerate_from}
+use Rattle.std.specs.Str.{bytes_eq}
 use Rattle.tmpl_grammar.specs.Tree.{Pipeline, Binding, unbound, declare, assign, declare_pair, Header}
 use Rattle.tmpl_grammar.specs.declared.tree.Control.{Control}
 use Rattle.tmpl_grammar.specs.declared.tree.Control.TheVariants as control
@@ -31,7 +36,7 @@ use Rattle.tmpl_schema.specs.computed.Check.{holds_loop, dot_in, in_body, in_oth
 use Rattle.tmpl_schema.specs.declared.flow.FallThrough.{FallThrough}
 use Rattle.tmpl_schema.specs.declared.flow.FallThrough.TheVariants.{Both, Body, Other}
 use Rattle.tmpl_schema.specs.computed.Check.{after_parts, end_parts, dot_after, dot_by, is_absent, diverges, any_diverges, fall_through, past_parts}
-use Rattle.tmpl_schema.specs.computed.Check.{Origin, pipeline_origin, pipeline_shape, narrow, bound_shapes, at_start, is_safe}
+use Rattle.tmpl_schema.specs.computed.Check.{Origin, key_tie, pipeline_origin, pipeline_shape, narrow, bound_shapes, at_start, is_safe}
 use Rattle.tmpl_schema.specs.computed.Safe.{IsAccepted, IsCallee, IsChecked}
 use Rattle.tmpl_loops.specs.Form.{Loop, Turn, stopped, turn_of}
 use Rattle.tmpl_loops.specs.Law.{EndsWith, IsLoop, IsTurn, MayFault, copied_by}
@@ -41,7 +46,7 @@ use Rattle.tmpl_shape.proofs.ShapeLemmas.{within-has}
 use Rattle.tmpl_schema.proofs.FieldLemmas.{Gives, Each, IsVisit, Visits, fill-has, visit-gives}
 use Rattle.tmpl_schema.proofs.VariableLemmas.{above-zero, HasKnown, Fits, place, known-length, last-known, last-last, within-known, joined-left, joined-right, both-known, bound-known}
 use Rattle.tmpl_schema.proofs.VariableLemmas.{pipeline-gives, pipeline-has, narrow-fits}
-use Rattle.tmpl_schema.proofs.OriginLemmas.{HasOrigin, at-root}
+use Rattle.tmpl_schema.proofs.OriginLemmas.{HasOrigin, HasTie, IsKeyOf, at-root, key-tied}
 
 mapped_some : {A B : Type 0} → (o : Option A) (t : A → B) (y : B) → option_map t o ≡ Some y → (x : A) × (o ≡ Some x) × (t x ≡ y)
 mapped_some None t y e = cc
@@ -76,6 +81,63 @@ visited-true (declare_pair key name) (mapping xs) e es is = elements-true (mappi
 visited-true unbound v e es is = elements-true v e es is
 visited-true (declare name) v e es is = elements-true v e es is
 visited-true (assign name) v e es is = elements-true v e es is
+
+-- ---- indexes and keys
+
+-- with two variables a range visits the same, but for numbers
+elements-same : (b : Binding) (v : Value) → pairs v ≡ elements v → elements_visited b v ≡ elements v
+elements-same (declare_pair key name) (number n) e = cc
+elements-same _ v e = refl
+
+abbrev AllKeys : Value → List Element → Type 0
+AllKeys v [] = Unit {0}
+AllKeys v (e ∷ es) = IsKeyOf v e.0 × AllKeys v es
+
+abbrev AreKeys : Value → Option (List Element) → Type 0
+AreKeys v None = Unit {0}
+AreKeys v (Some es) = AllKeys v es
+
+key-there : (v x : Value) → IsKeyOf v x → is_nothing v ≡ false
+key-there nothing x h = absurd h
+key-there null x h = absurd h
+key-there (boolean b) x h = refl
+key-there (number n) x h = refl
+key-there (string s) x h = refl
+key-there (sequence vs) x h = refl
+key-there (mapping es) x h = refl
+
+count-keys : (n : ℤ) (is : List ℕ) → AllKeys (number n) (map (λ i. (number (pos i), number (pos i))) is)
+count-keys n [] = tt
+count-keys n (i ∷ is) = (tt, count-keys n is)
+
+item-keys : (all vs : Items) (j : ℕ) → j + length (values_of_items vs) ≤ length (values_of_items all)
+    → AllKeys (sequence all) (map (λ p. (number (pos p.0), p.1)) (enumerate_from j (values_of_items vs)))
+item-keys all no_item j h = tt
+item-keys all (item v vs) j h = (omega (arith, h), item-keys all vs (j + 1) (omega (arith, h)))
+
+entry-keys : (all es : Entries) → ((k : List ℕ) → IsSome (entry_at k es) → IsSome (entry_at k all)) → AllKeys (mapping all) (elements_of_entries es)
+entry-keys all no_entry f = tt
+entry-keys all (entry k v es) f = (f k (first (bytes_eq k k) ((bytes_eq-Decides k k).1 refl)), entry-keys all es (λ n h. f n (more (bytes_eq k n) n h)))
+  where
+    first : (b : Bool) → b ≡ true → IsSome (if b then Some v else entry_at k es)
+    first true e = refl
+    first false e = absurd (false≢true e)
+
+    more : (b : Bool) (n : List ℕ) → IsSome (entry_at n es) → IsSome (if b then Some v else entry_at n es)
+    more true n h = refl
+    more false n h = h
+
+visited-keys : (b : Binding) (v : Value) → AreKeys v (elements_visited b v)
+visited-keys (declare_pair key name) (number n) = tt
+visited-keys unbound (number n) = count-keys n _
+visited-keys (declare name) (number n) = count-keys n _
+visited-keys (assign name) (number n) = count-keys n _
+visited-keys b (sequence vs) = rw (elements-same b (sequence vs) refl) (item-keys vs vs 0 (omega arith))
+visited-keys b (mapping es) = rw (elements-same b (mapping es) refl) (entry-keys es es (λ k h. h))
+visited-keys b nothing = rw (elements-same b nothing refl) tt
+visited-keys b null = rw (elements-same b null refl) tt
+visited-keys b (boolean c) = rw (elements-same b (boolean c) refl) tt
+visited-keys b (string s) = rw (elements-same b (string s) refl) tt
 
 module _ (base : Base) (N : Names) (means : Means base.defs N) (stops : List (List ℕ)) where
   -- ---- calls
@@ -264,7 +326,7 @@ module _ (base : Base) (N : Names) (means : Means base.defs N) (stops : List (Li
           (body-known w k.env a.env b.env out.env joint body other never (dot_value c v d) q)
           (in_f (in_body base c h k sh) a isa (dot_value c v d) q (
             dot-has c (fill base sh) (narrow base true h.pipeline k).dot v d full n.0,
-            (bound-known base N means top) h.binding nothings (fill base sh) o (without_key v) tt full from (narrow base true h.pipeline k).env r.env n.1,
+            (bound-known base N means top) h.binding nothings (fill base sh) None o (without_key v) tt full tt from (narrow base true h.pipeline k).env r.env n.1,
             dot-from c o (narrow base true h.pipeline k).from v d from n.2,
           ))
       by false t a isa b isb joint left =
@@ -276,7 +338,7 @@ module _ (base : Base) (N : Names) (means : Means base.defs N) (stops : List (Li
           scope-ends loop k.env b out r.env fits.1 holds x.1 x.0.env (left-second loop a.left b.left out.left left)
           (other-known w k.env a.env b.env out.env joint body other never d q)
           (in_g (in_other base h k sh) b isb d q
-          (n.0, (bound-known base N means top) h.binding nothings sh o (without_key v) tt has from (narrow base false h.pipeline k).env r.env n.1, n.2))
+          (n.0, (bound-known base N means top) h.binding nothings sh None o (without_key v) tt has tt from (narrow base false h.pipeline k).env r.env n.1, n.2))
 
   -- ---- ranges
 
@@ -335,10 +397,19 @@ module _ (base : Base) (N : Names) (means : Means base.defs N) (stops : List (Li
       by broke e = here (left-so head (last_of (length head) inner.env) inner.left all is env e)
       by continued e = here (left-so head (last_of (length head) inner.env) inner.left all is env e)
 
-  module _ (s : Setting) (line : ℕ) (h : Header) (loop : Option Known) (v : Visit) (head : Known) (inner : After) (all : Known) (body : Value → Next)
+  -- what a turn visits: an element of these shapes, and an index or a key of what is at this chain
+  abbrev IsTurned : Visit → Origin → Element → Type 0
+  IsTurned v over e = (IsVisit base N means) v e × HasTie top (key_tie over) e.0
+
+  turned : (v : Visit) (over : Origin) (es : List Element) → (Each base N means) ((IsVisit base N means) v) es
+      → (Each base N means) (λ e. HasTie top (key_tie over) e.0) es → (Each base N means) (IsTurned v over) es
+  turned v over [] h g = tt
+  turned v over (e ∷ es) h g = ((h.0, g.0), turned v over es h.1 g.1)
+
+  module _ (s : Setting) (line : ℕ) (h : Header) (loop : Option Known) (v : Visit) (over : Origin) (head : Known) (inner : After) (all : Known) (body : Value → Next)
       (is : with_left base (last_of (length head) inner.env) inner.left ≡ Some all) (w : all_within base all head ≡ true)
-      (in_body_so : (e : Element) (r : Run) → (IsVisit base N means) v e → (HasKnown base N means top) head r.env → Ends (Some head) inner (body e.1 (with_bound h.binding e r))) where
-    turn-ends : (e : Element) (r : Run) → (IsVisit base N means) v e → (HasKnown base N means top) head r.env → TurnEnds head (turn s line h.binding body e r).1 (turn s line h.binding body e r).0.env
+      (in_body_so : (e : Element) (r : Run) → IsTurned v over e → (HasKnown base N means top) head r.env → Ends (Some head) inner (body e.1 (with_bound h.binding e r))) where
+    turn-ends : (e : Element) (r : Run) → IsTurned v over e → (HasKnown base N means top) head r.env → TurnEnds head (turn s line h.binding body e r).1 (turn s line h.binding body e r).0.env
     turn-ends e r i k = by (nat_eq r.left 0)
       where
         by : (b : Bool) → TurnEnds head (spend_if b s line (scope (λ q. body e.1 (with_bound h.binding e q))) r).1
@@ -348,7 +419,7 @@ module _ (base : Base) (N : Names) (means : Means base.defs N) (stops : List (Li
             let q : Run = record r { left = r.left - 1 } in
             let x = body e.1 (with_bound h.binding e q) in turn-end head inner all r.env k is w x.1 x.0.env (in_body_so e q i k)
 
-    turns-end : (es : List Element) (r : Run) → (Each base N means) ((IsVisit base N means) v) es → (HasKnown base N means top) head r.env → Ends loop (past head) (turns s line h.binding body es r)
+    turns-end : (es : List Element) (r : Run) → (Each base N means) (IsTurned v over) es → (HasKnown base N means top) head r.env → Ends loop (past head) (turns s line h.binding body es r)
     turns-end [] r i k = k
     turns-end (e ∷ es) r i k =
         let x = turn s line h.binding body e r in by x.1 x.0 (turn-ends e r i.0 k) (λ q. turns-end es q i.1)
@@ -374,6 +445,22 @@ module _ (base : Base) (N : Names) (means : Means base.defs N) (stops : List (Li
       by (Some []) is = tt
       by (Some (e ∷ es)) is = f (visited-true h.binding v e es is)
 
+  -- the index or the key of each element is one of what is at this chain
+  abbrev AreTied : Origin → Option (List Element) → Type 0
+  AreTied over None = Unit {0}
+  AreTied over (Some es) = (Each base N means) (λ e. HasTie top (key_tie over) e.0) es
+
+  keys-tied : (b : Binding) (v : Value) (over : Origin) → HasOrigin top over v → AreTied over (elements_visited b v)
+  keys-tied b v over from = by (elements_visited b v) (visited-keys b v)
+    where
+      by : (o : Option (List Element)) → AreKeys v o → AreTied over o
+      by None h = tt
+      by (Some es) h = each es h
+        where
+          each : (es : List Element) → AllKeys v es → (Each base N means) (λ e. HasTie top (key_tie over) e.0) es
+          each [] h = tt
+          each (e ∷ es) h = (key-tied top over v e.0 from (key-there v e.0 h.0) h.0, each es h.1)
+
   -- a range over elements, in its scope
   past-turns : (w : FallThrough) (rs a b out : Known) → after_parts base w rs a b ≡ Some out → (body other : Value → Next) → NeverPastIn control.Range w body other
       → (env : Environment) → (HasKnown base N means top) (last_of (length rs) a) env → (HasKnown base N means top) out env
@@ -390,41 +477,45 @@ module _ (base : Base) (N : Names) (means : Means base.defs N) (stops : List (Li
 
   over-ends : (w : FallThrough) (s : Setting) (line : ℕ) (h : Header) (k : State) (loop : Option Known) (f : Option Known → Checked) (g : Checked) (body other : Value → Next) (v : Visit)
       (out : After) → after_range base w h k f g v ≡ Some out → holds_loop loop k.env ≡ true → ((l : Option Known) → PartHas l (f l) body) → PartHas loop g other
-      → NeverPastIn control.Range w body other → (d : Value) (r : Run) → (Fits base N means top) k d r.env → (made : Bool) (o : Option (List Element)) → (Visits base N means) (Some v) o → Begins h k r.env o
+      → NeverPastIn control.Range w body other → (d : Value) (r : Run) → (Fits base N means top) k d r.env → (made : Bool) (o : Option (List Element)) → (Visits base N means) (Some v) o → AreTied (pipeline_origin k h.pipeline) o → Begins h k r.env o
       → Ends loop out (scoped (length r.env) (over s line h.binding body (other d) o (record r { made_text = made })))
-  over-ends w s line h k loop f g body other v out is holds in_f in_g never d r fits made o visits begins =
-      option_and_then_some _ (settle_soon base (turn_known base h v f) (at_head base h k)) out is (λ head ish rest.
+  over-ends w s line h k loop f g body other v out is holds in_f in_g never d r fits made o visits ties begins =
+      option_and_then_some _ (settle_soon base (turn_known base h v (pipeline_origin k h.pipeline) f) (at_head base h k)) out is (λ head ish rest.
       option_and_then_some (end_parts base w k.env (past head)) (g k) out rest (λ b isb joint.
       let p = ends-of w k.env (past head) b out joint in
-      by o visits begins head b isb (past-turns w k.env head b.env out.env p.0 body other never) (past-other w k.env head b.env out.env p.0 body other never) p.1
-      (soon-so (turn_known base h v f) (at_head base h k) head ish)))
+      by o visits ties begins head b isb (past-turns w k.env head b.env out.env p.0 body other never) (past-other w k.env head b.env out.env p.0 body other never) p.1
+      (soon-so (turn_known base h v (pipeline_origin k h.pipeline) f) (at_head base h k) head ish)))
     where
       r1 : Run
       r1 = record r { made_text = made }
 
-      turning : (head : Known) (inner : After) (all : Known) → f (Some head) (in_turn h v head) ≡ Some inner
+      from : Origin
+      from = pipeline_origin k h.pipeline
+
+      turning : (head : Known) (inner : After) (all : Known) → f (Some head) (in_turn h v from head) ≡ Some inner
           → with_left base (last_of (length head) inner.env) inner.left ≡ Some all → all_within base all head ≡ true
-          → (es : List Element) → (Each base N means) ((IsVisit base N means) v) es → (HasKnown base N means top) head r.env → Ends loop (past head) (turns s line h.binding body es r1)
+          → (es : List Element) → (Each base N means) (IsTurned v from) es → (HasKnown base N means top) head r.env → Ends loop (past head) (turns s line h.binding body es r1)
       turning head inner all isi is_all w es each k1 =
-          turns-end s line h loop v head inner all body is_all w
-          (λ e q i kq. in_f (Some head) (in_turn h v head) inner isi e.1 (with_bound h.binding e q) (i.1, (bound-known base N means top) h.binding v.key v.element None e i.0 i.1 tt head q.env kq, tt))
+          turns-end s line h loop v from head inner all body is_all w
+          (λ e q i kq. in_f (Some head) (in_turn h v from head) inner isi e.1 (with_bound h.binding e q)
+          (i.0.1, (bound-known base N means top) h.binding v.key v.element from None e i.0.0 i.0.1 i.1 tt head q.env kq, tt))
           es r1 each k1
 
-      by : (o : Option (List Element)) → (Visits base N means) (Some v) o → Begins h k r.env o → (head : Known) (b : After) → g k ≡ Some b
+      by : (o : Option (List Element)) → (Visits base N means) (Some v) o → AreTied from o → Begins h k r.env o → (head : Known) (b : After) → g k ≡ Some b
           → ((env : Environment) → (HasKnown base N means top) (last_of (length k.env) head) env → (HasKnown base N means top) out.env env)
           → ((d : Value) (r : Run) → (other d r).1 ≡ done → (env : Environment) → (HasKnown base N means top) (last_of (length k.env) b.env) env
           → (HasKnown base N means top) out.env env)
-          → join_left base None b.left ≡ Some out.left → IsHead (turn_known base h v f) (at_head base h k) head
+          → join_left base None b.left ≡ Some out.left → IsHead (turn_known base h v from f) (at_head base h k) head
           → Ends loop out (scoped (length r.env) (over s line h.binding body (other d) o r1))
-      by None visits begins head b isb turned passed left set = absurd visits
-      by (Some []) visits begins head b isb turned passed left set =
+      by None visits ties begins head b isb gone passed left set = absurd visits
+      by (Some []) visits ties begins head b isb gone passed left set =
           let x = other d r1 in
           scope-ends loop k.env b out r.env fits.1 holds x.1 x.0.env (left-second loop None b.left out.left left) (passed d r1) (in_g k b isb d r1 fits)
-      by (Some (e ∷ es)) visits begins head b isb turned passed left set =
+      by (Some (e ∷ es)) visits ties begins head b isb gone passed left set =
           let x = turns s line h.binding body (e ∷ es) r1 in
-          option_and_then_some (λ (a : After). with_left base (last_of (length head) a.env) a.left) (f (Some head) (in_turn h v head)) set.1 set.2 (λ inner isi is_all.
-          scope-ends loop k.env (past head) out r.env fits.1 holds x.1 x.0.env (left-first loop None b.left out.left left) (λ e. turned)
-          (turning head inner set.1 isi is_all set.3 (e ∷ es) visits (set.0 r.env begins)))
+          option_and_then_some (λ (a : After). with_left base (last_of (length head) a.env) a.left) (f (Some head) (in_turn h v from head)) set.1 set.2 (λ inner isi is_all.
+          scope-ends loop k.env (past head) out r.env fits.1 holds x.1 x.0.env (left-first loop None b.left out.left left) (λ e. gone)
+          (turning head inner set.1 isi is_all set.3 (e ∷ es) (turned v from (e ∷ es) visits ties) (set.0 r.env begins)))
 
   -- a control in its scope
   control-ends : (w : FallThrough) (s : Setting) (line : ℕ) (c : Control) (h : Header) (k : State) (loop : Option Known) (f : Option Known → Checked) (g : Checked) (body other : Value → Next)
@@ -440,6 +531,7 @@ module _ (base : Base) (N : Names) (means : Means base.defs N) (stops : List (Li
       option_and_then_some (after_range base w h k f g) (visit_of base h.binding sh) out is (λ visit isv rest.
       over-ends w s line h k loop f g body other visit out rest holds in_f in_g never d r fits made (elements_visited h.binding v)
       (subst (λ (o : Option Visit). (Visits base N means) o (elements_visited h.binding v)) isv ((visit-gives base N means) h.binding sh v has))
+      (keys-tied h.binding v (pipeline_origin k h.pipeline) ((pipeline-has base N means top) s.rules.missing_key h.pipeline k d r.env v fits value))
       (begins-so h k r.env v (λ full. ((narrow-fits base N means top) true s.rules.missing_key h.pipeline k d r.env v fits value full).1)))
 
   was_open : (b : Bool) (o : Option After) (y : After) → (if b then o else None) ≡ Some y → (b ≡ true) × (o ≡ Some y)
@@ -457,14 +549,14 @@ module _ (base : Base) (N : Names) (means : Means base.defs N) (stops : List (Li
 
   module _ (s : Setting) (table : Table) (calls : (CallsHave base N means stops) table s.calls) where
     shown-ends : (h : Header) (k : State) (loop : Option Known) (sh : Shape) (o : Origin) (v : Value) (r : Run) → (HasKnown base N means top) k.env r.env → HasShape N sh v
-        → HasOrigin top o v → Ends loop (past (bound_shapes h.binding nothings sh o k.env)) (show h.binding v r)
+        → HasOrigin top o v → Ends loop (past (bound_shapes h.binding nothings sh None o k.env)) (show h.binding v r)
     shown-ends h k loop sh o v r known has from = by h.binding
       where
-        by : (b : Binding) → Ends loop (past (bound_shapes b nothings sh o k.env)) (show b v r)
+        by : (b : Binding) → Ends loop (past (bound_shapes b nothings sh None o k.env)) (show b v r)
         by unbound = known
-        by (declare name) = (bound-known base N means top) (declare name) nothings sh o (without_key v) tt has from k.env r.env known
-        by (assign name) = (bound-known base N means top) (assign name) nothings sh o (without_key v) tt has from k.env r.env known
-        by (declare_pair key name) = (bound-known base N means top) (declare_pair key name) nothings sh o (without_key v) tt has from k.env r.env known
+        by (declare name) = (bound-known base N means top) (declare name) nothings sh None o (without_key v) tt has tt from k.env r.env known
+        by (assign name) = (bound-known base N means top) (assign name) nothings sh None o (without_key v) tt has tt from k.env r.env known
+        by (declare_pair key name) = (bound-known base N means top) (declare_pair key name) nothings sh None o (without_key v) tt has tt from k.env r.env known
 
     left-ends : (loop : Option Known) (ks : Known) (out : After) (env : Environment) → leave_with ks loop ≡ Some out → (HasKnown base N means top) ks env → InLoop loop out.left env
     left-ends None ks out env e k = cc
@@ -656,9 +748,9 @@ module _ (base : Base) (N : Names) (means : Means base.defs N) (stops : List (Li
           let same : past k.env ≡ out = cc in subst (λ (x : After). (HasKnown base N means top) x.env r.env) same fits.1
       stepped-ends (action h) line loop k out is d r fits =
           let o = pipeline_origin k h.pipeline in
-          let p = mapped_some (pipeline_shape base s.rules.missing_key k h.pipeline) (λ sh. past (bound_shapes h.binding nothings sh o k.env)) out is in
+          let p = mapped_some (pipeline_shape base s.rules.missing_key k h.pipeline) (λ sh. past (bound_shapes h.binding nothings sh None o k.env)) out is in
           subst (λ (x : After). Ends loop x (with_pipeline s line h.pipeline d (show h.binding) r)) p.2
-          (pipeline-all (Ends loop (past (bound_shapes h.binding nothings p.0 o k.env))) s line h.pipeline d (show h.binding) k p.0 r fits p.1
+          (pipeline-all (Ends loop (past (bound_shapes h.binding nothings p.0 None o k.env))) s line h.pipeline d (show h.binding) k p.0 r fits p.1
           (λ v made value has. shown-ends h k loop p.0 o v (record r { made_text = made }) fits.1 has
           ((pipeline-has base N means top) s.rules.missing_key h.pipeline k d r.env v fits value)))
       stepped-ends (control_node c h body other) line loop k out is d r fits =

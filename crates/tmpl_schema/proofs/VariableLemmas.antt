@@ -5,16 +5,17 @@ use Rattle.std.proofs.lemmas.Bool.{false≢true, and_parts, eqb-true, ltb-true, 
 use Rattle.std.proofs.lemmas.Bool.Decides.{Decides-eqb, Decides-int_eq}
 use Rattle.std.specs.Ordering.{int_eq}
 use Rattle.std.specs.Option.{option_map, option_map_or, option_and_then}
-use Rattle.std.specs.List.{find}
+use Rattle.std.specs.List.{enumerate_from, find}
+use Rattle.std.specs.Prelude.{IsSome}
 use Rattle.std.specs.Str.{bytes_eq}
-use Rattle.tmpl_values.specs.Value.{Value, nothing, null, boolean, number, string, sequence, mapping, Items, Entries}
+use Rattle.tmpl_values.specs.Value.{Value, nothing, null, boolean, number, string, sequence, mapping, Items, no_item, item, Entries, no_entry, entry}
 use Rattle.tmpl_values.specs.Field.{found, missing, entry_at}
 use Rattle.tmpl_values.specs.Stage.{and_then}
 use Rattle.tmpl_funcs.specs.Index.{element_at, indexed_by}
 use Rattle.tmpl_funcs.specs.declared.fault.CallFault.{CallFault}
 use Rattle.tmpl_funcs.specs.declared.fault.CallFault.TheVariants.{WrongKind}
 use Rattle.std.specs.Result.{result_map_both}
-use Rattle.tmpl_values.specs.Elements.{Element, values_of_items}
+use Rattle.tmpl_values.specs.Elements.{Element, elements_of_entries, values_of_items}
 use Rattle.tmpl_values.specs.Item.{size_of}
 use Rattle.tmpl_values.specs.Compare.{equality, is_nothing, order}
 use Rattle.tmpl_values.specs.Truth.{truth}
@@ -23,29 +24,29 @@ use Rattle.tmpl_grammar.specs.Tree.{Operand, dot, fields, variable, nil, bool_co
 use Rattle.tmpl_grammar.specs.Tree.{Binding, unbound, declare, assign, declare_pair}
 use Rattle.tmpl_meaning.specs.Fault.{Cause, call_failed}
 use Rattle.tmpl_meaning.specs.Pipeline.{Environment, Given, Place, chain, field_value, lookup, as_given, given_then, go_on, without_null, operand_value, command_value, commands_value}
-use Rattle.tmpl_meaning.specs.Meaning.{assign_variable, bind}
+use Rattle.tmpl_meaning.specs.Meaning.{assign_variable, bind, elements_visited}
 use Rattle.tmpl_meaning.specs.declared.missing_key.MissingKey.{MissingKey}
 use Rattle.tmpl_meaning.specs.declared.missing_key.MissingKey.TheVariants as mode
 use Rattle.tmpl_shape.specs.Shape.{Fields, Shape, never, nothings, nulls, texts, list_of, record_of, either, named, HasShape, IsField, Names}
-use Rattle.tmpl_shape.specs.declared.kind.Kind.TheVariants.{Blank}
+use Rattle.tmpl_shape.specs.declared.kind.Kind.TheVariants.{Blank, Number}
 use Rattle.tmpl_shape.specs.computed.Formats.{printf_shape}
 use Rattle.tmpl_shape.specs.computed.Means.{Means}
 use Rattle.tmpl_shape.specs.computed.Shapes.{Base, Test, has_least, is_among, is_apart, least_of, lets_value, is_constant, is_named, is_same, within, both, any_field, fill, has_kind, join, keyed_shape, null_gone, refine, chain_shape, entry_shape, index_shape, index_shape_by}
-use Rattle.tmpl_shape.specs.computed.Shapes.{Key, of_name, of_text, of_place, item_shape, part_shape}
+use Rattle.tmpl_shape.specs.computed.Shapes.{Key, of_name, of_text, of_place, item_shape, part_shape, Visit, visit_of}
 use Rattle.tmpl_shape.specs.computed.Calls.{call_shape, shape_by_function}
 use Rattle.tmpl_schema.specs.computed.Check.{Fact, call_counts, call_fact, command_call, count_of, counts_in, first_fact, least_by, length_fact, mirror, more_than, one_of}
 use Rattle.tmpl_schema.specs.computed.Check.{operand_counts, are_constants, is_nil_alone, equal_test, constant_test, pair_fact, compare_fact, turned_fact, piped_fact, tells, narrow_all, narrow_as, narrow_by, narrow_command, narrow_operand, narrow_to}
 use Rattle.tmpl_schema.specs.computed.Check.{are_texts, bounds_of, sliced_shape, call_place, chain_place, index_place, texts_in, deciding_shape, passing_shape, passed, operand_shapes, junction_shape, commands_shape}
 use Rattle.tmpl_schema.specs.computed.Check as check
-use Rattle.tmpl_schema.specs.computed.Check.{Origin, narrow_from, narrow_root, origin_within, pipeline_origin, pipeline_place, place_of, place_origin, refine_all, refine_along, refine_from, rest_of, root_origin, variable_origin}
-use Rattle.tmpl_schema.proofs.OriginLemmas.{HasOrigin, IsAt, at-chain, at-gone, at-joined, at-rest, at-root, origin_within-has, origins-left, origins-right, rest_of-is}
-use Rattle.tmpl_schema.specs.computed.Check.{Known, State, variable_shape, assigned_shape, bound_shapes, refine_variable, all_within, is_split, join_all, join_origins, join_parts, join_to, last_of}
+use Rattle.tmpl_schema.specs.computed.Check.{Origin, Tie, is_path, key_tie, narrow_from, narrow_root, operand_origin, owner_of, own_entry, path_of, tie_of, tie_within, pipeline_origin, pipeline_place, place_of, place_origin, refine_all, refine_along, refine_from, rest_of, root_origin, variable_origin, variable_owner}
+use Rattle.tmpl_schema.proofs.OriginLemmas.{HasOrigin, HasTie, IsAt, IsKeyOf, at-chain, at-gone, at-joined, at-rest, at-root, is-key, owner-has, path-has, path-same, rest_of-is, tie_within-has, tied, ties-left, ties-right}
+use Rattle.tmpl_schema.specs.computed.Check.{Known, State, variable_shape, assigned_shape, bound_shapes, refine_variable, all_within, is_split, join_all, join_ties, join_parts, join_to, last_of}
 use Rattle.tmpl_schema.specs.computed.Check.{absent_field, after_both, entry_along, entry_by, operand_shape, indexed_shape, printed_shape, command_shape, pipeline_shape, narrow}
 use Rattle.tmpl_shape.proofs.KindLemmas.{has_kind-has}
 use Rattle.tmpl_shape.proofs.ShapeLemmas.{bytes-turned, same_name, within-has, join-left, join-right}
 use Rattle.tmpl_schema.proofs.NullLemmas.{null_gone-has}
 use Rattle.tmpl_schema.proofs.FormatLemmas.{printf-gives}
-use Rattle.tmpl_schema.proofs.FieldLemmas.{Ends, Gives, Passes, Shows, any-has, at-entry, both-left, both-right, entry-gives, chain-gives, fill-has, full-thing, only-there, refine-has}
+use Rattle.tmpl_schema.proofs.FieldLemmas.{Each, Ends, Gives, IsVisit, Passes, Shows, Visits, any-has, at-entry, both-left, both-right, entry-gives, chain-gives, fill-has, full-thing, only-there, refine-has, visit-gives}
 use Rattle.tmpl_schema.proofs.PartLemmas.{item-at, part-gives, part_told}
 use Rattle.tmpl_schema.proofs.CallLemmas.{HaveShapes, call-gives}
 use Rattle.tmpl_funcs.specs.Func.{takes}
@@ -222,7 +223,7 @@ module _ (base : Base) (N : Names) (means : Means base.defs N) (top : Value) whe
   -- the variables have these names, shapes and origins
   abbrev pub HasKnown : Known → Environment → Type 0
   HasKnown [] [] = Unit {0}
-  HasKnown (k ∷ ks) (v ∷ env) = (v.0 ≡ k.0) × HasShape N k.1 v.1 × HasKnown ks env × HasOrigin top k.2 v.1
+  HasKnown (k ∷ ks) (v ∷ env) = (v.0 ≡ k.0) × HasShape N k.1 v.1 × HasKnown ks env × HasTie top k.2 v.1
   HasKnown ks env = ⊥
 
   pub known-length : (ks : Known) (env : Environment) → HasKnown ks env → length ks ≡ length env
@@ -250,22 +251,22 @@ module _ (base : Base) (N : Names) (means : Means base.defs N) (top : Value) whe
   pub within-known : (a b : Known) (env : Environment) → all_within base a b ≡ true → HasKnown a env → HasKnown b env
   within-known [] [] env e h = h
   within-known (a ∷ more) (b ∷ bs) (v ∷ env) e h =
-      let p = and_parts (bytes_eq a.0 b.0) (within base a.1 b.1 && (origin_within a.2 b.2 && all_within base more bs)) e in
-      let q = and_parts (within base a.1 b.1) (origin_within a.2 b.2 && all_within base more bs) p.1 in
-      let r = and_parts (origin_within a.2 b.2) (all_within base more bs) q.1 in (
+      let p = and_parts (bytes_eq a.0 b.0) (within base a.1 b.1 && (tie_within a.2 b.2 && all_within base more bs)) e in
+      let q = and_parts (within base a.1 b.1) (tie_within a.2 b.2 && all_within base more bs) p.1 in
+      let r = and_parts (tie_within a.2 b.2) (all_within base more bs) q.1 in (
         h.0 ∙ same_name a.0 b.0 p.0,
         (within-has base N means) a.1 b.1 v.1 q.0 h.1,
         within-known more bs env r.1 h.2,
-        origin_within-has top a.2 b.2 v.1 r.0 h.3,
+        tie_within-has top a.2 b.2 v.1 r.0 h.3,
       )
   within-known (a ∷ more) (b ∷ bs) [] e h = absurd h
   within-known _ _ env e h = absurd (false≢true e)
 
   -- what the joined variables begin with
-  abbrev joined : List ℕ × Shape × Origin → List ℕ × Shape × Origin → List ℕ × Shape × Origin
-  joined k l = (k.0, join base k.1 l.1, join_origins k.2 l.2)
+  abbrev joined : List ℕ × Shape × Tie → List ℕ × Shape × Tie → List ℕ × Shape × Tie
+  joined k l = (k.0, join base k.1 l.1, join_ties k.2 l.2)
 
-  was_joined : (k l : List ℕ × Shape × Origin) (c : Known) (b : Bool) (o : Option Known) → bytes_eq k.0 l.0 ≡ b
+  was_joined : (k l : List ℕ × Shape × Tie) (c : Known) (b : Bool) (o : Option Known) → bytes_eq k.0 l.0 ≡ b
       → (if b then option_map (λ js. joined k l ∷ js) o else None) ≡ Some c
       → (js : Known) × (bytes_eq k.0 l.0 ≡ true) × (o ≡ Some js) × ((joined k l ∷ js) ≡ c)
   was_joined k l c true (Some js) is e = let same : (joined k l ∷ js) ≡ c = cc in (js, is, refl, same)
@@ -282,7 +283,7 @@ module _ (base : Base) (N : Names) (means : Means base.defs N) (top : Value) whe
         h.0,
         (join-left base N means) k.1 l.1 v.1 h.1,
         joined-left ks ls p.0 env p.2 h.2,
-        origins-left top k.2 l.2 v.1 h.3,
+        ties-left top k.2 l.2 v.1 h.3,
       )
   joined-left _ _ c env e h = cc
 
@@ -295,15 +296,15 @@ module _ (base : Base) (N : Names) (means : Means base.defs N) (top : Value) whe
         h.0 ∙ sym (same_name k.0 l.0 p.1),
         (join-right base N means) k.1 l.1 v.1 h.1,
         joined-right ks ls p.0 env p.2 h.2,
-        origins-right top k.2 l.2 v.1 h.3,
+        ties-right top k.2 l.2 v.1 h.3,
       )
   joined-right _ _ c env e h = cc
 
   -- what the variables after two parts begin with
-  abbrev parted : List ℕ × Shape × Origin → List ℕ × Shape × Origin → List ℕ × Shape × Origin → List ℕ × Shape × Origin
-  parted r k l = (k.0, join_to base r.1 k.1 l.1, join_origins k.2 l.2)
+  abbrev parted : List ℕ × Shape × Tie → List ℕ × Shape × Tie → List ℕ × Shape × Tie → List ℕ × Shape × Tie
+  parted r k l = (k.0, join_to base r.1 k.1 l.1, join_ties k.2 l.2)
 
-  was_parted : (r k l : List ℕ × Shape × Origin) (c : Known) (b : Bool) (o : Option Known) → bytes_eq k.0 l.0 ≡ b
+  was_parted : (r k l : List ℕ × Shape × Tie) (c : Known) (b : Bool) (o : Option Known) → bytes_eq k.0 l.0 ≡ b
       → (if b then option_map (λ js. parted r k l ∷ js) o else None) ≡ Some c
       → (js : Known) × (bytes_eq k.0 l.0 ≡ true) × (o ≡ Some js) × ((parted r k l ∷ js) ≡ c)
   was_parted r k l c true (Some js) is e = let same : (parted r k l ∷ js) ≡ c = cc in (js, is, refl, same)
@@ -340,7 +341,7 @@ module _ (base : Base) (N : Names) (means : Means base.defs N) (top : Value) whe
         h.0,
         part-has r.1 k.1 l.1 v.1 (inl h.1),
         parted-left rs ks ls p.0 env p.2 h.2,
-        origins-left top k.2 l.2 v.1 h.3,
+        ties-left top k.2 l.2 v.1 h.3,
       )
   parted-left _ _ _ c env e h = cc
 
@@ -353,7 +354,7 @@ module _ (base : Base) (N : Names) (means : Means base.defs N) (top : Value) whe
         h.0 ∙ sym (same_name k.0 l.0 p.1),
         part-has r.1 k.1 l.1 v.1 (inr h.1),
         parted-right rs ks ls p.0 env p.2 h.2,
-        origins-right top k.2 l.2 v.1 h.3,
+        ties-right top k.2 l.2 v.1 h.3,
       )
   parted-right _ _ _ c env e h = cc
 
@@ -377,23 +378,23 @@ module _ (base : Base) (N : Names) (means : Means base.defs N) (top : Value) whe
       by true more = h.1
       by false more = more
 
-  assigned-known : (name : List ℕ) (s : Shape) (o : Origin) (x : Value) → HasShape N s x → HasOrigin top o x → (ks : Known) (env : Environment) → HasKnown ks env
-      → HasKnown (assigned_shape name s o ks) (assign_variable name x env)
-  assigned-known name s o x f i [] [] h = tt
-  assigned-known name s o x f i (k ∷ ks) (v ∷ env) h = rw h.0 (by (bytes_eq k.0 name) (assigned-known name s o x f i ks env h.2))
+  assigned-known : (name : List ℕ) (s : Shape) (t : Tie) (x : Value) → HasShape N s x → HasTie top t x → (ks : Known) (env : Environment) → HasKnown ks env
+      → HasKnown (assigned_shape name s t ks) (assign_variable name x env)
+  assigned-known name s t x f i [] [] h = tt
+  assigned-known name s t x f i (k ∷ ks) (v ∷ env) h = rw h.0 (by (bytes_eq k.0 name) (assigned-known name s t x f i ks env h.2))
     where
-      by : (b : Bool) → HasKnown (assigned_shape name s o ks) (assign_variable name x env)
-          → HasKnown (if b then (k.0, s, o) ∷ ks else k ∷ assigned_shape name s o ks) (if b then (k.0, x) ∷ env else (k.0, v.1) ∷ assign_variable name x env)
+      by : (b : Bool) → HasKnown (assigned_shape name s t ks) (assign_variable name x env)
+          → HasKnown (if b then (k.0, s, t) ∷ ks else k ∷ assigned_shape name s t ks) (if b then (k.0, x) ∷ env else (k.0, v.1) ∷ assign_variable name x env)
       by true more = (refl, f, h.2, i)
       by false more = (refl, h.1, more, h.3)
-  assigned-known name s o x f i _ _ h = absurd h
+  assigned-known name s t x f i _ _ h = absurd h
 
-  pub bound-known : (b : Binding) (k s : Shape) (o : Origin) (e : Element) → HasShape N k e.0 → HasShape N s e.1 → HasOrigin top o e.1 → (ks : Known) (env : Environment)
-      → HasKnown ks env → HasKnown (bound_shapes b k s o ks) (bind b e env)
-  bound-known unbound k s o e f g i ks env h = h
-  bound-known (declare name) k s o e f g i ks env h = (refl, g, h, i)
-  bound-known (assign name) k s o e f g i ks env h = assigned-known name s o e.1 g i ks env h
-  bound-known (declare_pair key name) k s o e f g i ks env h = (refl, g, (refl, f, h, tt), i)
+  pub bound-known : (b : Binding) (k s : Shape) (over o : Origin) (e : Element) → HasShape N k e.0 → HasShape N s e.1 → HasTie top (key_tie over) e.0
+      → HasOrigin top o e.1 → (ks : Known) (env : Environment) → HasKnown ks env → HasKnown (bound_shapes b k s over o ks) (bind b e env)
+  bound-known unbound k s over o e f g j i ks env h = h
+  bound-known (declare name) k s over o e f g j i ks env h = (refl, g, h, tied top o e.1 i)
+  bound-known (assign name) k s over o e f g j i ks env h = assigned-known name s (tie_of o) e.1 g (tied top o e.1 i) ks env h
+  bound-known (declare_pair key name) k s over o e f g j i ks env h = (refl, g, (refl, f, h, j), tied top o e.1 i)
 
   origin-has : (name : List ℕ) (ks : Known) (env : Environment) → HasKnown ks env → HasOrigin top (variable_origin name ks) (lookup name env)
   origin-has name [] [] h = tt
@@ -402,8 +403,19 @@ module _ (base : Base) (N : Names) (means : Means base.defs N) (top : Value) whe
   origin-has name (k ∷ ks) (v ∷ env) h = rw h.0 (by (bytes_eq k.0 name) (origin-has name ks env h.2))
     where
       by : (b : Bool) → HasOrigin top (variable_origin name ks) (lookup name env)
-          → HasOrigin top (if b then k.2 else variable_origin name ks) (option_map_or (λ v. v.1) (if b then Some (k.0, v.1) else find (λ v. bytes_eq v.0 name) env) nothing)
-      by true more = h.3
+          → HasOrigin top (if b then path_of k.2 else variable_origin name ks) (option_map_or (λ v. v.1) (if b then Some (k.0, v.1) else find (λ v. bytes_eq v.0 name) env) nothing)
+      by true more = path-has top k.2 v.1 h.3
+      by false more = more
+
+  owned : (name : List ℕ) (ks : Known) (env : Environment) → HasKnown ks env → HasTie top (key_tie (variable_owner name ks)) (lookup name env)
+  owned name [] [] h = tt
+  owned name [] (v ∷ env) h = absurd h
+  owned name (k ∷ ks) [] h = absurd h
+  owned name (k ∷ ks) (v ∷ env) h = rw h.0 (by (bytes_eq k.0 name) (owned name ks env h.2))
+    where
+      by : (b : Bool) → HasTie top (key_tie (variable_owner name ks)) (lookup name env)
+          → HasTie top (key_tie (if b then owner_of k.2 else variable_owner name ks)) (option_map_or (λ v. v.1) (if b then Some (k.0, v.1) else find (λ v. bytes_eq v.0 name) env) nothing)
+      by true more = owner-has top k.2 v.1 h.3
       by false more = more
 
   refine-known : (test : Test) (name : List ℕ) (ns : List (List ℕ)) (ks : Known) (env : Environment) → HasKnown ks env
@@ -441,7 +453,7 @@ module _ (base : Base) (N : Names) (means : Means base.defs N) (top : Value) whe
 
   all-along : (test : Test) (ns : List (List ℕ)) → Ends test ns top → (ks : Known) (env : Environment) → HasKnown ks env → HasKnown (refine_all base test ns ks) env
   all-along test ns t [] [] h = tt
-  all-along test ns t (k ∷ ks) (v ∷ env) h = (h.0, along-has test ns t k.2 k.1 v.1 h.1 h.3, all-along test ns t ks env h.2, h.3)
+  all-along test ns t (k ∷ ks) (v ∷ env) h = (h.0, along-has test ns t (path_of k.2) k.1 v.1 h.1 (path-has top k.2 v.1 h.3), all-along test ns t ks env h.2, h.3)
   all-along test ns t _ _ h = absurd h
 
   -- ---- pipelines
@@ -582,6 +594,46 @@ module _ (base : Base) (N : Names) (means : Means base.defs N) (top : Value) whe
       by true e = text w ((within-has base N means) key texts w e g)
       by false e = tt
 
+  -- .. by one of its own keys, or by an index of a list
+  list-at : (u : Visit) (vs : Items) (j i : ℕ) → (Each base N means) ((IsVisit base N means) u) (map (λ p. (number (pos p.0), p.1)) (enumerate_from j (values_of_items vs)))
+      → i < length (values_of_items vs) → (Gives base N means) (Some u.element) (told (element_at (sequence vs) (number (pos i))))
+  list-at u no_item j i h less = absurd (omega (arith, less))
+  list-at u (item v vs) j zero h less = h.0.1
+  list-at u (item v vs) j (suc i) h less = list-at u vs (j + 1) i h.1 (omega (arith, less))
+
+  map-at : (u : Visit) (k : List ℕ) (es : Entries) → (Each base N means) ((IsVisit base N means) u) (elements_of_entries es) → IsSome (entry_at k es)
+      → (Gives base N means) (Some u.element) (Ok (unwrap_or (entry_at k es) null))
+  map-at u k no_entry h there = absurd (false≢true there)
+  map-at u k (entry l v es) h there = by (bytes_eq l k) (map-at u k es h.1) there
+    where
+      by : (b : Bool) → (IsSome (entry_at k es) → (Gives base N means) (Some u.element) (Ok (unwrap_or (entry_at k es) null)))
+          → IsSome (if b then Some v else entry_at k es) → (Gives base N means) (Some u.element) (Ok (unwrap_or (if b then Some v else entry_at k es) null))
+      by true more there = h.0.1
+      by false more there = more there
+
+  own-gives : (s : Shape) (v w : Value) → HasShape N s v → (is_nothing v ≡ false → IsKeyOf v w) → (Gives base N means) (own_entry base s) (told (element_at v w))
+  own-gives s v w h key = by (has_kind base Blank s) refl (has_kind base Number s) refl
+    where
+      visited : (o : Option Visit) → (Visits base N means) o (elements_visited unbound v) → has_kind base Blank s ≡ false → has_kind base Number s ≡ false
+          → (Gives base N means) (option_map (λ u. u.element) o) (told (element_at v w))
+      visited None seen blank count = tt
+      visited (Some u) seen blank count = at v w h key seen
+        where
+          at : (v w : Value) → HasShape N s v → (is_nothing v ≡ false → IsKeyOf v w) → (Visits base N means) (Some u) (elements_visited unbound v)
+              → (Gives base N means) (Some u.element) (told (element_at v w))
+          at nothing w h key seen = absurd (false≢true (sym blank ∙ (has_kind-has base N means) s nothing h))
+          at null w h key seen = absurd (false≢true (sym blank ∙ (has_kind-has base N means) s null h))
+          at (number n) w h key seen = absurd (false≢true (sym count ∙ (has_kind-has base N means) s (number n) h))
+          at (sequence vs) (number (pos i)) h key seen = list-at u vs 0 i seen (key refl)
+          at (mapping es) (string k) h key seen = map-at u k es seen (key refl)
+          at v w h key seen = absurd (key refl)
+
+      by : (b : Bool) → has_kind base Blank s ≡ b → (c : Bool) → has_kind base Number s ≡ c
+          → (Gives base N means) (if b || c then None else option_map (λ u. u.element) (visit_of base unbound s)) (told (element_at v w))
+      by true e c f = tt
+      by false e true f = tt
+      by false e false f = visited (visit_of base unbound s) ((visit-gives base N means) unbound s v h) e f
+
   last-gives : (o : Option Shape) (r : Result Value CallFault) → (Gives base N means) o (told r) → (Gives base N means) o (told (and_then r (λ x. indexed_by x [])))
   last-gives None r h = tt
   last-gives (Some s) (Ok v) h = h
@@ -641,11 +693,11 @@ module _ (base : Base) (N : Names) (means : Means base.defs N) (top : Value) whe
       by false e = row rs (thing v e h) g
 
   indexed-after : (f : Shape → Option Shape) (o : Option Shape) (x : Result Value Cause) (rs : Result (List Value) Cause) (a b c : Bool) (ps : List Value) → (Gives base N means) o x
-      → ((s : Shape) (v : Value) → HasShape N s v → (Gives base N means) (f s) (found_by rs a ps v))
+      → ((s : Shape) (v : Value) → x ≡ Ok v → HasShape N s v → (Gives base N means) (f s) (found_by rs a ps v))
       → (Gives base N means) (option_and_then (λ s. if has_kind base Blank s then None else f s) o)
       (go_on (go_on x c (λ v. go_on rs b (λ vs. as_given (Ok (v ∷ vs))))).result a (λ us. apply_function func.Index (us ++ ps))).result
   indexed-after f None x rs a b c ps h k = tt
-  indexed-after f (Some s) (Ok v) rs a b c ps h k = thing-gives f s v rs a b ps h (k s v h)
+  indexed-after f (Some s) (Ok v) rs a b c ps h k = thing-gives f s v rs a b ps h (k s v refl h)
   indexed-after f (Some s) (Err e) rs a b c ps h k = absurd h
 
   printed-after : (format : List ℕ) (ps : Option Shape) (pv : Option Value) → Piped ps pv → (os : Option (List Shape)) (rs : Result (List Value) Cause) (a b : Bool) → GivesAll os rs
@@ -811,6 +863,14 @@ module _ (base : Base) (N : Names) (means : Means base.defs N) (top : Value) whe
       by : (o : Origin) → HasOrigin top o (root_value d env p.root) → HasOrigin top (option_map (λ ps. ps ++ p.path) o) v
       by None g = tt
       by (Some ps) g = at-joined ps p.path top (root_value d env p.root) v g i
+
+  operand-has : (m : MissingKey) (o : Operand) (k : State) (d : Value) (env : Environment) (v : Value) → Fits k d env → (operand_value (place m d env) o).result ≡ Ok v
+      → HasOrigin top (operand_origin k o) v
+  operand-has m o k d env v h e = by (place_of o) (operand-placed m o d env v e)
+    where
+      by : (o : Option check.Place) → IsPlaced d env o v → HasOrigin top (option_and_then (place_origin k) o) v
+      by None g = tt
+      by (Some q) g = place-has k d env q v h g
 
   pub pipeline-has : (m : MissingKey) (p : Pipeline) (k : State) (d : Value) (env : Environment) (v : Value) → Fits k d env → (commands_value (place m d env) p None).result ≡ Ok v
       → HasOrigin top (pipeline_origin k p) v
@@ -1370,6 +1430,26 @@ module _ (base : Base) (N : Names) (means : Means base.defs N) (top : Value) whe
           ((part-gives base N means) b.0 b.1 s v h)
 
   module _ (m : MissingKey) (d : Value) (env : Environment) where
+    -- the entry of a variable that is one of the keys of what is indexed
+    at-gives : (name : List ℕ) (k : State) (from : Origin) (key s : Shape) (w v : Value) → Fits k d env → (operand_value (place m d env) (variable name [])).result ≡ Ok w
+        → HasShape N key w → HasShape N s v → HasOrigin top from v → (Gives base N means) (check.entry_at base k (variable name []) from key s) (told (element_at v w))
+    at-gives name k None key s w v fits e g h i = entry_by-gives key s w v g h
+    at-gives name k (Some ps) key s w v fits e g h i = by (variable_owner name k.env) (owned name k.env env fits.1)
+      where
+        here : lookup name env ≡ w
+        here = cc
+
+        by : (o : Origin) → HasTie top (key_tie o) (lookup name env)
+            → (Gives base N means) (if option_map_or (is_path ps) o false then own_entry base s else entry_by base key s) (told (element_at v w))
+        by None t = entry_by-gives key s w v g h
+        by (Some qs) t = same (is_path ps qs) refl
+          where
+            same : (b : Bool) → is_path ps qs ≡ b → (Gives base N means) (if b then own_entry base s else entry_by base key s) (told (element_at v w))
+            same false is = entry_by-gives key s w v g h
+            same true is =
+                own-gives s v w h (λ there. subst (λ (x : Value). IsKeyOf v x) here
+                (is-key top qs v (lookup name env) t (subst (λ (rs : List (List ℕ)). IsAt rs top v) (path-same ps qs is) i) there))
+
     junction-step : (is_or : Bool) (o : Operand) (os : Operands) (k : State) (ps : Option Shape) (pv : Option Value) → Fits k d env
         → ((u : State) (s : Shape) (v : Value) → Fits u d env → HasShape N s v → (Gives base N means) (junction_shape base is_or m u s os ps) (junction is_or (place m d env) v os pv).result)
         → (s : Shape) (v : Value) → (operand_value (place m d env) o).result ≡ Ok v → HasShape N s v
@@ -1419,30 +1499,36 @@ module _ (base : Base) (N : Names) (means : Means base.defs N) (top : Value) whe
           go-gives _ _ (operand_shape base m k o) (operand_value (place m d env) o).result (operand_value (place m d env) o).made_text (operand-gives o k fits)
           (junction-step is_or o os k ps pv fits (junction-gives os is_or ps pv p))
 
-      along-gives : (os : Operands) (k : State) (ps : Option Shape) (pv : Option Value) (b : Bool) → Fits k d env → Piped ps pv → (s : Shape) (v : Value) → HasShape N s v
-          → (Gives base N means) (entry_along base m k os ps s) (found_by (operand_values (place m d env) os).result b (option_to_list pv) v)
-      along-gives no_operand k None None b fits p s v h = h
-      along-gives no_operand k (Some key) (Some w) b fits p s v h = last-gives (entry_by base key s) (element_at v w) (entry_by-gives key s w v p h)
-      along-gives no_operand k None (Some w) b fits p s v h = absurd p
-      along-gives no_operand k (Some key) None b fits p s v h = absurd p
-      along-gives (operand (text_constant n) os) k ps pv b fits p s v h =
-          key-gives (entry_along base m k os ps) (index_shape base (of_name n) s) (operand_values (place m d env) os).result (operand_values (place m d env) os).made_text b
-          (option_to_list pv) v (string n) (index-gives base.limit (of_name n) n s v h) (λ t u. along-gives os k ps pv b fits p t u)
-      along-gives (operand (number_constant (pos i)) os) k ps pv b fits p s v h =
-          key-gives (entry_along base m k os ps) (index_shape base (of_place i) s) (operand_values (place m d env) os).result (operand_values (place m d env) os).made_text b
-          (option_to_list pv) v (number (pos i)) (index-gives base.limit (of_place i) [] s v h) (λ t u. along-gives os k ps pv b fits p t u)
-      along-gives (operand o os) k ps pv b fits p s v h =
-          keys-give (entry_along base m k os ps) (λ key. entry_by base key s) (operand_shape base m k o) (operand_value (place m d env) o).result
+      along-gives : (os : Operands) (k : State) (ps : Option Shape) (pv : Option Value) (b : Bool) → Fits k d env → Piped ps pv → (from : Origin) (s : Shape) (v : Value)
+          → HasShape N s v → HasOrigin top from v
+          → (Gives base N means) (entry_along base m k os ps from s) (found_by (operand_values (place m d env) os).result b (option_to_list pv) v)
+      along-gives no_operand k None None b fits p from s v h i = h
+      along-gives no_operand k (Some key) (Some w) b fits p from s v h i = last-gives (entry_by base key s) (element_at v w) (entry_by-gives key s w v p h)
+      along-gives no_operand k None (Some w) b fits p from s v h i = absurd p
+      along-gives no_operand k (Some key) None b fits p from s v h i = absurd p
+      along-gives (operand (text_constant n) os) k ps pv b fits p from s v h i =
+          key-gives (entry_along base m k os ps None) (index_shape base (of_name n) s) (operand_values (place m d env) os).result (operand_values (place m d env) os).made_text b
+          (option_to_list pv) v (string n) (index-gives base.limit (of_name n) n s v h) (λ t u g. along-gives os k ps pv b fits p None t u g tt)
+      along-gives (operand (number_constant (pos i)) os) k ps pv b fits p from s v h j =
+          key-gives (entry_along base m k os ps None) (index_shape base (of_place i) s) (operand_values (place m d env) os).result (operand_values (place m d env) os).made_text b
+          (option_to_list pv) v (number (pos i)) (index-gives base.limit (of_place i) [] s v h) (λ t u g. along-gives os k ps pv b fits p None t u g tt)
+      along-gives (operand (variable name []) os) k ps pv b fits p from s v h i =
+          keys-give (entry_along base m k os ps None) (λ key. check.entry_at base k (variable name []) from key s) (operand_shape base m k (variable name []))
+          (operand_value (place m d env) (variable name [])).result (operand_values (place m d env) os).result (operand_values (place m d env) os).made_text b
+          (operand_value (place m d env) (variable name [])).made_text (option_to_list pv) v
+          (operand-gives (variable name []) k fits) (λ key w e g. at-gives name k from key s w v fits e g h i) (λ t u g. along-gives os k ps pv b fits p None t u g tt)
+      along-gives (operand o os) k ps pv b fits p from s v h i =
+          keys-give (entry_along base m k os ps None) (λ key. entry_by base key s) (operand_shape base m k o) (operand_value (place m d env) o).result
           (operand_values (place m d env) os).result (operand_values (place m d env) os).made_text b (operand_value (place m d env) o).made_text (option_to_list pv) v
-          (operand-gives o k fits) (λ key w e g. entry_by-gives key s w v g h) (λ t u. along-gives os k ps pv b fits p t u)
+          (operand-gives o k fits) (λ key w e g. entry_by-gives key s w v g h) (λ t u g. along-gives os k ps pv b fits p None t u g tt)
 
       indexed-gives : (os : Operands) (k : State) (ps : Option Shape) (pv : Option Value) → Fits k d env → Piped ps pv
           → (Gives base N means) (indexed_shape base m k os ps) (given_then (operand_values (place m d env) os) (λ vs. apply_function func.Index (vs ++ option_to_list pv))).result
       indexed-gives no_operand k ps pv fits p = tt
       indexed-gives (operand o os) k ps pv fits p =
-          indexed-after (entry_along base m k os ps) (operand_shape base m k o) (operand_value (place m d env) o).result (operand_values (place m d env) os).result
+          indexed-after (entry_along base m k os ps (operand_origin k o)) (operand_shape base m k o) (operand_value (place m d env) o).result (operand_values (place m d env) os).result
           (operand_values (place m d env) (operand o os)).made_text (operand_values (place m d env) os).made_text (operand_value (place m d env) o).made_text (option_to_list pv)
-          (operand-gives o k fits) (λ s v. along-gives os k ps pv _ fits p s v)
+          (operand-gives o k fits) (λ s v e h. along-gives os k ps pv _ fits p (operand_origin k o) s v h (operand-has m o k d env v fits e))
 
       sliced-gives : (os : Operands) (k : State) (ps : Option Shape) (pv : Option Value) → Fits k d env → Piped ps pv
           → (Gives base N means) (sliced_shape base m k os ps) (given_then (operand_values (place m d env) os) (λ vs. apply_function func.Slice (vs ++ option_to_list pv))).result

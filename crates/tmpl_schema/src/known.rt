@@ -6,13 +6,13 @@ ghost use Rattle.std.specs.Option.{option_map};
 ghost use Rattle.tmpl_grammar.specs.View.{binding_of};
 ghost use Rattle.tmpl_shape.specs.View.{shape_of};
 ghost use Rattle.tmpl_schema.specs.computed.Check.{after_both, after_parts, all_within, assigned_shape, bound_shapes, holds_loop, join_all, join_parts, join_to};
-ghost use Rattle.tmpl_schema.specs.computed.Check.{last_of, refine_all, refine_from, refine_variable, variable_origin, variable_shape};
+ghost use Rattle.tmpl_schema.specs.computed.Check.{last_of, refine_all, refine_along, refine_from, refine_variable, rest_of, variable_origin, variable_owner, variable_shape};
 ghost use Rattle.tmpl_shape.specs.computed.Shapes.{join};
 ghost use Rattle.tmpl_shape.specs.computed.View.{base_of, shape_seen, test_seen};
-ghost use Rattle.tmpl_schema.specs.computed.View.{is_longer, known_of, known_seen, origin_of};
+ghost use Rattle.tmpl_schema.specs.computed.View.{is_longer, known_of, known_seen, origin_of, tie_seen};
 
 use crate::flow::FallThrough;
-use crate::origin::{copy_origin, join_origins, origin_within, rest_of};
+use crate::origin::{Tie, rest_of};
 use std::alloc::{AllocError, Global};
 use std::rc::Rc;
 use tmpl_grammar::Binding;
@@ -56,7 +56,7 @@ impl Drop for Known {
 pub(crate) struct Variable {
     pub(crate) name: Bytes,
     pub(crate) shape: Rc<Shape>,
-    pub(crate) origin: Option<Vec<Bytes>>,
+    pub(crate) tie: Tie,
     pub(crate) older: Known,
 }
 
@@ -65,10 +65,10 @@ pub(crate) fn put_variable(
     alloc: Global,
     name: &[u8],
     shape: Rc<Shape>,
-    origin: Option<Vec<Bytes>>,
+    tie: Tie,
     older: Known,
 ) -> Result<Known, AllocError>
-    ensures { IfOk result (λ ks. known_of ks ≡ (name.now, shape_of shape.value, origin_of origin) ∷ known_of older) }
+    ensures { IfOk result (λ ks. known_of ks ≡ (name.now, shape_of shape.value, tie_seen tie) ∷ known_of older) }
 {
     let name = copy_name(alloc, name)?;
     Ok(Known::More(Rc::new(
@@ -76,7 +76,7 @@ pub(crate) fn put_variable(
         Variable {
             name,
             shape,
-            origin,
+            tie,
             older,
         },
     )?))
@@ -116,9 +116,9 @@ pub(crate) fn variable_origin<'k>(name: &[u8], known: &'k Known) -> Option<&'k [
         Known::Empty => None,
         Known::More(newest) => {
             if newest.name.as_slice() == name {
-                match &newest.origin {
-                    Some(path) => Some(path.as_slice()),
-                    None => None,
+                match &newest.tie {
+                    Tie::Valued(path) => Some(path.as_slice()),
+                    Tie::Untied | Tie::Keyed(_) => None,
                 }
             } else {
                 variable_origin(name, &newest.older)
@@ -127,16 +127,35 @@ pub(crate) fn variable_origin<'k>(name: &[u8], known: &'k Known) -> Option<&'k [
     }
 }
 
-/// Where the newest variable of a name is assigned a value of this shape and provenance.
+/// The provenance of what the newest variable of a name is an index or a key of.
+pub(crate) fn variable_owner<'k>(name: &[u8], known: &'k Known) -> Option<&'k [Bytes]>
+    ensures { option_map (λ p. p.now) result ≡ variable_owner name.now (known_of known.now) }
+{
+    match known {
+        Known::Empty => None,
+        Known::More(newest) => {
+            if newest.name.as_slice() == name {
+                match &newest.tie {
+                    Tie::Keyed(path) => Some(path.as_slice()),
+                    Tie::Untied | Tie::Valued(_) => None,
+                }
+            } else {
+                variable_owner(name, &newest.older)
+            }
+        }
+    }
+}
+
+/// Where the newest variable of a name is assigned a value of this shape and tie.
 fn assign(
     base: &Base<'_>,
     name: &[u8],
     shape: Rc<Shape>,
-    origin: Option<Vec<Bytes>>,
+    tie: Tie,
     known: &Known,
 ) -> Result<Known, AllocError>
     ensures { IfOk result (λ ks. known_of ks
-        ≡ assigned_shape name.now (shape_of shape.value) (origin_of origin) (known_of known.now)) }
+        ≡ assigned_shape name.now (shape_of shape.value) (tie_seen tie) (known_of known.now)) }
 {
     base.effort.spend(VARIABLE);
     match known {
@@ -144,54 +163,60 @@ fn assign(
         Known::More(newest) => {
             if newest.name.as_slice() == name {
                 let older = copy_known(&newest.older)?;
-                put_variable(base.alloc, name, shape, origin, older)
+                put_variable(base.alloc, name, shape, tie, older)
             } else {
                 let kept = Rc::clone(&newest.shape)?;
-                let kept_origin = copy_origin(base.alloc, &newest.origin)?;
-                let older = assign(base, name, shape, origin, &newest.older)?;
-                put_variable(base.alloc, newest.name.as_slice(), kept, kept_origin, older)
+                let kept_tie = newest.tie.copy(base.alloc)?;
+                let older = assign(base, name, shape, tie, &newest.older)?;
+                put_variable(base.alloc, newest.name.as_slice(), kept, kept_tie, older)
             }
         }
     }
 }
 
-/// Where variables take an element of this shape and provenance, and its index or key.
+/// What a header binds its variables to.
+#[derive(Clone, Copy)]
+pub(crate) struct Bound<'b> {
+    /// The shape of an index or a key.
+    pub(crate) key: &'b Shape,
+    /// Where that of which it is one is from.
+    pub(crate) over: &'b Option<Vec<Bytes>>,
+    /// The shape of an element, or of another value.
+    pub(crate) element: &'b Shape,
+    /// Where that is from.
+    pub(crate) origin: &'b Option<Vec<Bytes>>,
+}
+
+/// Where variables take an element, and its index or key.
 pub(crate) fn bind(
     base: &Base<'_>,
     binding: &Binding,
-    key: &Shape,
-    element: &Shape,
-    origin: &Option<Vec<Bytes>>,
+    bound: &Bound<'_>,
     known: &Known,
 ) -> Result<Known, AllocError>
-    ensures { IfOk result (λ ks. known_of ks ≡ bound_shapes (binding_of binding.now) (shape_of key.now)
-        (shape_of element.now) (origin_of origin.now) (known_of known.now)) }
+    ensures { IfOk result (λ ks. known_of ks ≡ bound_shapes (binding_of binding.now) (shape_of bound.now.key.now)
+        (shape_of bound.now.element.now) (origin_of bound.now.over.now) (origin_of bound.now.origin.now) (known_of known.now)) }
 {
     match binding {
         Binding::Unbound => copy_known(known),
         Binding::Declare(name) => {
-            let shape = Rc::new(base.alloc, copy_counted(base, element)?)?;
-            let origin = copy_origin(base.alloc, origin)?;
-            put_variable(
-                base.alloc,
-                name.as_slice(),
-                shape,
-                origin,
-                copy_known(known)?,
-            )
+            let shape = Rc::new(base.alloc, copy_counted(base, bound.element)?)?;
+            let tie = Tie::of(base.alloc, bound.origin)?;
+            put_variable(base.alloc, name.as_slice(), shape, tie, copy_known(known)?)
         }
         Binding::Assign(name) => {
-            let shape = Rc::new(base.alloc, copy_counted(base, element)?)?;
-            let origin = copy_origin(base.alloc, origin)?;
-            assign(base, name.as_slice(), shape, origin, known)
+            let shape = Rc::new(base.alloc, copy_counted(base, bound.element)?)?;
+            let tie = Tie::of(base.alloc, bound.origin)?;
+            assign(base, name.as_slice(), shape, tie, known)
         }
         Binding::DeclarePair(pair) => {
-            let shape = Rc::new(base.alloc, copy_counted(base, key)?)?;
+            let shape = Rc::new(base.alloc, copy_counted(base, bound.key)?)?;
+            let tie = Tie::of_key(base.alloc, bound.over)?;
             let older = copy_known(known)?;
-            let older = put_variable(base.alloc, pair.key.as_slice(), shape, None, older)?;
-            let shape = Rc::new(base.alloc, copy_counted(base, element)?)?;
-            let origin = copy_origin(base.alloc, origin)?;
-            put_variable(base.alloc, pair.element.as_slice(), shape, origin, older)
+            let older = put_variable(base.alloc, pair.key.as_slice(), shape, tie, older)?;
+            let shape = Rc::new(base.alloc, copy_counted(base, bound.element)?)?;
+            let tie = Tie::of(base.alloc, bound.origin)?;
+            put_variable(base.alloc, pair.element.as_slice(), shape, tie, older)
         }
     }
 }
@@ -249,16 +274,33 @@ pub(crate) fn refine_variable(
     match known {
         Known::Empty => Ok(Known::Empty),
         Known::More(newest) => {
-            let origin = copy_origin(base.alloc, &newest.origin)?;
+            let tie = newest.tie.copy(base.alloc)?;
             if newest.name.as_slice() == name {
                 let shape = Rc::new(base.alloc, refine(base, test, names, &newest.shape)?)?;
                 let older = copy_known(&newest.older)?;
-                return put_variable(base.alloc, newest.name.as_slice(), shape, origin, older);
+                return put_variable(base.alloc, newest.name.as_slice(), shape, tie, older);
             }
             let shape = Rc::clone(&newest.shape)?;
             let older = refine_variable(base, test, name, names, &newest.older)?;
-            put_variable(base.alloc, newest.name.as_slice(), shape, origin, older)
+            put_variable(base.alloc, newest.name.as_slice(), shape, tie, older)
         }
+    }
+}
+
+/// The values at a chain from the data of the template, where another is so.
+fn refine_along(
+    base: &Base<'_>,
+    test: Test<'_>,
+    names: &[Bytes],
+    path: &[Bytes],
+    shape: &Rc<Shape>,
+) -> Result<Rc<Shape>, AllocError>
+    ensures { IfOk result (λ s. shape_of s.value ≡ refine_along (base_of base.now) (test_seen test.entry) names.now
+        (shape_of shape.now.value) (rest_of path.now names.now)) }
+{
+    match rest_of(path, names) {
+        Some(rest) => Ok(Rc::new(base.alloc, refine(base, test, rest, shape)?)?),
+        None => Rc::clone(shape),
     }
 }
 
@@ -274,11 +316,8 @@ pub(crate) fn refine_from(
         ≡ refine_from (base_of base.now) (test_seen test.entry) names.now (origin_of origin.now) (shape_of shape.now.value)) }
 {
     match origin {
-        Some(path) => match rest_of(path.as_slice(), names) {
-            Some(rest) => Ok(Rc::new(base.alloc, refine(base, test, rest, shape)?)?),
-            None => Ok(Rc::clone(shape)?),
-        },
-        None => Ok(Rc::clone(shape)?),
+        Some(path) => refine_along(base, test, names, path.as_slice(), shape),
+        None => Rc::clone(shape),
     }
 }
 
@@ -296,10 +335,19 @@ pub(crate) fn refine_all(
     match known {
         Known::Empty => Ok(Known::Empty),
         Known::More(newest) => {
-            let shape = refine_from(base, test, names, &newest.origin, &newest.shape)?;
-            let origin = copy_origin(base.alloc, &newest.origin)?;
+            let shape = match &newest.tie {
+                Tie::Valued(path) => refine_along(
+                    base,
+                    test,
+                    names,
+                    path.as_slice(),
+                    &newest.shape,
+                )?,
+                Tie::Untied | Tie::Keyed(_) => Rc::clone(&newest.shape)?,
+            };
+            let tie = newest.tie.copy(base.alloc)?;
             let older = refine_all(base, test, names, &newest.older)?;
-            put_variable(base.alloc, newest.name.as_slice(), shape, origin, older)
+            put_variable(base.alloc, newest.name.as_slice(), shape, tie, older)
         }
     }
 }
@@ -313,7 +361,7 @@ pub(crate) fn all_within(base: &Base<'_>, known: &Known, others: &Known) -> bool
         (Known::More(newest), Known::More(other)) => {
             newest.name.as_slice() == other.name.as_slice()
                 && within(base, &newest.shape, &other.shape)
-                && origin_within(&newest.origin, &other.origin)
+                && newest.tie.is_within(&other.tie)
                 && all_within(base, &newest.older, &other.older)
         }
         (Known::Empty, Known::More(_)) | (Known::More(_), Known::Empty) => false,
@@ -350,10 +398,10 @@ pub(crate) fn join_all(base: &Base<'_>, known: &Known, others: &Known) -> Result
                 return Err(Trouble::may_fail(base.alloc, Cause::Variables));
             }
             let shape = join_shared(base, &newest.shape, &other.shape)?;
-            let origin = join_origins(base.alloc, &newest.origin, &other.origin)?;
+            let tie = newest.tie.join(&other.tie, base.alloc)?;
             let older = join_all(base, &newest.older, &other.older)?;
             let name = newest.name.as_slice();
-            Ok(put_variable(base.alloc, name, shape, origin, older)?)
+            Ok(put_variable(base.alloc, name, shape, tie, older)?)
         }
         (Known::Empty, Known::More(_)) | (Known::More(_), Known::Empty) => {
             Err(Trouble::may_fail(base.alloc, Cause::Variables))
@@ -406,9 +454,9 @@ fn join_parts(
                 return Err(Trouble::may_fail(base.alloc, Cause::Variables));
             }
             let shape = join_to(base, &was.shape, &newest.shape, &other.shape)?;
-            let origin = join_origins(base.alloc, &newest.origin, &other.origin)?;
+            let tie = newest.tie.join(&other.tie, base.alloc)?;
             let older = join_parts(base, &was.older, &newest.older, &other.older)?;
-            Ok(put_variable(base.alloc, name, shape, origin, older)?)
+            Ok(put_variable(base.alloc, name, shape, tie, older)?)
         }
         _ => Err(Trouble::may_fail(base.alloc, Cause::Variables)),
     }

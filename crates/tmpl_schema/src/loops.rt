@@ -14,6 +14,7 @@ ghost use Rattle.tmpl_schema.specs.computed.View.{state_of};
 use crate::check::is_stop;
 use crate::failure::{Failure, Position};
 use crate::known::{Known, put_variable};
+use crate::origin::Tie;
 use crate::pipeline::Context;
 use crate::state::State;
 use std::alloc::AllocError;
@@ -171,11 +172,11 @@ fn byte_state(base: &Base<'_>, parts: &Parts<'_>) -> Result<State, AllocError>
 {
     let alloc = base.alloc;
     let text = Rc::new(alloc, Shape::Texts)?;
-    let known = put_variable(alloc, parts.text, text, None, Known::Empty)?;
+    let known = put_variable(alloc, parts.text, text, Tie::Untied, Known::Empty)?;
     let index = Rc::new(alloc, Shape::Numbers)?;
-    let known = put_variable(alloc, parts.index, index, None, known)?;
+    let known = put_variable(alloc, parts.index, index, Tie::Untied, known)?;
     let byte = Rc::new(alloc, Shape::Numbers)?;
-    let known = put_variable(alloc, parts.byte, byte, None, known)?;
+    let known = put_variable(alloc, parts.byte, byte, Tie::Untied, known)?;
     Ok(State {
         dot: Rc::new(alloc, Shape::Nothings)?,
         origin: None,

@@ -9,14 +9,14 @@ ghost use Rattle.tmpl_shape.specs.View.{shape_of};
 ghost use Rattle.tmpl_shape.specs.computed.View.{base_of, visit_seen};
 ghost use Rattle.tmpl_schema.specs.computed.Check.{after_node, after_nodes, at_head, in_body, in_other, in_turn};
 ghost use Rattle.tmpl_schema.specs.computed.Check.{pipeline_shape, settle_known, settle_soon};
-ghost use Rattle.tmpl_schema.specs.computed.View.{after_action, after_choice_by, after_of, after_range_by, known_of, known_seen, state_of, table_of, turn_by};
+ghost use Rattle.tmpl_schema.specs.computed.View.{after_action, after_choice_by, after_of, after_range_by, known_of, known_seen, origin_of, state_of, table_of, turn_by};
 ghost use Rattle.tmpl_syntax.specs.Tree.{template_node};
 ghost use Rattle.tmpl_syntax.specs.View.{control_of, node_of, nodes_in};
 
 use crate::after::{After, end_parts, join_left, leave_with, with_left};
 use crate::failure::{Failure, at_node};
 use crate::flow::{dot_after, fall_through, past_parts};
-use crate::known::{Known, all_within, bind, copy_known, holds_loop, join_all, oldest};
+use crate::known::{Bound, Known, all_within, bind, copy_known, holds_loop, join_all, oldest};
 use crate::pipeline::Context;
 use crate::state::{State, copy_state, narrow, pipeline_origin};
 use crate::table::{Call, Callee, Entry, find_callee};
@@ -79,14 +79,13 @@ pub(crate) fn in_body(
     let full = fill(base, shape)?;
     let from = pipeline_origin(base.alloc, header.pipeline.commands.as_slice(), state)?;
     let before = narrow(base, true, header.pipeline.commands.as_slice(), state)?;
-    let known = bind(
-        base,
-        &header.binding,
-        &Shape::Nothings,
-        &full,
-        &from,
-        &before.known,
-    )?;
+    let bound = Bound {
+        key: &Shape::Nothings,
+        over: &None,
+        element: &full,
+        origin: &from,
+    };
+    let known = bind(base, &header.binding, &bound, &before.known)?;
     let State { dot, origin, .. } = before;
     match control {
         Control::With => Ok(State {
@@ -111,14 +110,13 @@ pub(crate) fn in_other(
 {
     let from = pipeline_origin(base.alloc, header.pipeline.commands.as_slice(), state)?;
     let before = narrow(base, false, header.pipeline.commands.as_slice(), state)?;
-    let known = bind(
-        base,
-        &header.binding,
-        &Shape::Nothings,
-        shape,
-        &from,
-        &before.known,
-    )?;
+    let bound = Bound {
+        key: &Shape::Nothings,
+        over: &None,
+        element: shape,
+        origin: &from,
+    };
+    let known = bind(base, &header.binding, &bound, &before.known)?;
     let State { dot, origin, .. } = before;
     Ok(State { dot, origin, known })
 }
@@ -131,25 +129,32 @@ pub(crate) fn at_head(base: &Base<'_>, header: &Header, state: &State) -> Result
     Ok(known)
 }
 
+/// The turns of a range: its header, what it visits and where that is from, and its body.
+#[derive(Clone, Copy)]
+pub(crate) struct Turns<'t> {
+    pub(crate) header: &'t Header,
+    pub(crate) visit: &'t Visit,
+    pub(crate) over: &'t Option<Vec<Bytes>>,
+    pub(crate) body: &'t [Node],
+}
+
 /// Where a turn of a range begins.
 pub(crate) fn in_turn(
     base: &Base<'_>,
-    header: &Header,
-    visit: &Visit,
+    turns: &Turns<'_>,
     known: &Known,
 ) -> Result<State, AllocError>
     ensures { IfOk result (λ k. state_of k
-        ≡ in_turn (header_of header.now) (visit_seen visit.now) (known_of known.now)) }
+        ≡ in_turn (header_of turns.now.header.now) (visit_seen turns.now.visit.now) (origin_of turns.now.over.now) (known_of known.now)) }
 {
-    let dot = Rc::new(base.alloc, copy_counted(base, &visit.element)?)?;
-    let known = bind(
-        base,
-        &header.binding,
-        &visit.key,
-        &visit.element,
-        &None,
-        known,
-    )?;
+    let dot = Rc::new(base.alloc, copy_counted(base, &turns.visit.element)?)?;
+    let bound = Bound {
+        key: &turns.visit.key,
+        over: turns.over,
+        element: &turns.visit.element,
+        origin: &None,
+    };
+    let known = bind(base, &turns.header.binding, &bound, known)?;
     Ok(State {
         dot,
         origin: None,
@@ -168,14 +173,13 @@ fn after_action(checker: &Checker<'_>, state: &State, header: &Header) -> Result
         header.pipeline.commands.as_slice(),
         state,
     )?;
-    Ok(After::past(bind(
-        &checker.base,
-        &header.binding,
-        &Shape::Nothings,
-        &shape,
-        &from,
-        &state.known,
-    )?))
+    let bound = Bound {
+        key: &Shape::Nothings,
+        over: &None,
+        element: &shape,
+        origin: &from,
+    };
+    Ok(After::past(bind(&checker.base, &header.binding, &bound, &state.known)?))
 }
 
 /// The shape of what is handed to a template.
@@ -266,19 +270,13 @@ fn after_choice(
 
 /// The variables after a turn of a range, however it ends.
 #[cycle(node)]
-fn turn(
-    checker: &Checker<'_>,
-    known: &Known,
-    header: &Header,
-    visit: &Visit,
-    body: &[Node],
-) -> Result<Known, Failure>
+fn turn(checker: &Checker<'_>, known: &Known, turns: &Turns<'_>) -> Result<Known, Failure>
     ensures { IfOk result (λ ks. turn_by (base_of checker.now.base) checker.now.mode
-        (table_of checker.now.table.now) (header_of header.now) (visit_seen visit.now) (nodes_in body.now)
-        (known_of known.now) ≡ Some (known_of ks)) }
+        (table_of checker.now.table.now) (header_of turns.now.header.now) (visit_seen turns.now.visit.now)
+        (origin_of turns.now.over.now) (nodes_in turns.now.body.now) (known_of known.now) ≡ Some (known_of ks)) }
 {
-    let inside = in_turn(&checker.base, header, visit, known)?;
-    let after = after_nodes(checker, Some(known), inside, body)?;
+    let inside = in_turn(&checker.base, turns, known)?;
+    let after = after_nodes(checker, Some(known), inside, turns.body)?;
     Ok(with_left(&checker.base, oldest(&after.known, known), &after.left)?)
 }
 
@@ -289,23 +287,22 @@ fn settle(
     checker: &Checker<'_>,
     rounds: usize,
     known: Known,
-    header: &Header,
-    visit: &Visit,
-    body: &[Node],
+    turns: &Turns<'_>,
 ) -> Result<Known, Failure>
     ensures { IfOk result (λ ks. settle_known (base_of checker.now.base) rounds (turn_by
-        (base_of checker.now.base) checker.now.mode (table_of checker.now.table.now) (header_of header.now)
-        (visit_seen visit.now) (nodes_in body.now)) (known_of known) ≡ Some (known_of ks)) }
+        (base_of checker.now.base) checker.now.mode (table_of checker.now.table.now) (header_of turns.now.header.now)
+        (visit_seen turns.now.visit.now) (origin_of turns.now.over.now) (nodes_in turns.now.body.now)) (known_of known)
+        ≡ Some (known_of ks)) }
 {
     if rounds == 0 {
         return Err(Failure::may_fail(checker.base.alloc, Cause::Variables, None));
     }
-    let end = turn(checker, &known, header, visit, body)?;
+    let end = turn(checker, &known, turns)?;
     if all_within(&checker.base, &end, &known) {
         return Ok(known);
     }
     let more = join_all(&checker.base, &known, &end)?;
-    settle(checker, rounds - 1, more, header, visit, body)
+    settle(checker, rounds - 1, more, turns)
 }
 
 /// The variables at the head of a range, from those before it.
@@ -313,16 +310,15 @@ fn settle(
 pub(crate) fn settle_soon(
     checker: &Checker<'_>,
     known: &Known,
-    header: &Header,
-    visit: &Visit,
-    body: &[Node],
+    turns: &Turns<'_>,
 ) -> Result<Known, Failure>
     ensures { IfOk result (λ ks. settle_soon (base_of checker.now.base) (turn_by
-        (base_of checker.now.base) checker.now.mode (table_of checker.now.table.now) (header_of header.now)
-        (visit_seen visit.now) (nodes_in body.now)) (known_of known.now) ≡ Some (known_of ks)) }
+        (base_of checker.now.base) checker.now.mode (table_of checker.now.table.now) (header_of turns.now.header.now)
+        (visit_seen turns.now.visit.now) (origin_of turns.now.over.now) (nodes_in turns.now.body.now)) (known_of known.now)
+        ≡ Some (known_of ks)) }
 {
     let start = copy_known(known)?;
-    settle(checker, 12, start, header, visit, body)
+    settle(checker, 12, start, turns)
 }
 
 /// After a range over values of this shape.
@@ -341,7 +337,18 @@ fn after_range(
 {
     let visit = visit_of(&checker.base, &parts.header.binding, shape)?;
     let start = at_head(&checker.base, parts.header, state)?;
-    let settled_head = settle_soon(checker, &start, parts.header, &visit, parts.body)?;
+    let over = pipeline_origin(
+        checker.base.alloc,
+        parts.header.pipeline.commands.as_slice(),
+        state,
+    )?;
+    let turns = Turns {
+        header: parts.header,
+        visit: &visit,
+        over: &over,
+        body: parts.body,
+    };
+    let settled_head = settle_soon(checker, &start, &turns)?;
     let outside = copy_state(checker.base.alloc, state)?;
     let other = after_nodes(checker, head, outside, parts.other)?;
     let through = past_parts(checker, Control::Range, parts.body, parts.other);

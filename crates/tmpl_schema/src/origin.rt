@@ -4,14 +4,80 @@
 ghost use Rattle.std.specs.Prelude.{◌≡◌, ◌++◌, IfOk, OnOk};
 ghost use Rattle.std.specs.Option.{option_map};
 ghost use Rattle.tmpl_grammar.specs.View.{operands_in};
-ghost use Rattle.tmpl_schema.specs.computed.Check.{is_path, join_origins, origin_within, rest_of, texts_in};
-ghost use Rattle.tmpl_schema.specs.computed.View.{origin_of, place_seen};
+ghost use Rattle.tmpl_schema.specs.computed.Check.{is_path, join_ties, key_tie, rest_of, texts_in, tie_of, tie_within};
+ghost use Rattle.tmpl_schema.specs.computed.View.{origin_of, place_seen, tie_seen};
 
 use crate::facts::{Place, text_of};
 use std::alloc::{AllocError, Global};
 use tmpl_grammar::Operand;
 use tmpl_shape::copy_name;
 use tmpl_values::Bytes;
+
+/// How a variable is tied to the data of the template.
+#[derive(Drop)]
+pub(crate) enum Tie {
+    Untied,
+    /// It has the value at this chain of fields, but for nothing and null.
+    Valued(Vec<Bytes>),
+    /// It is an index or a key of what is at this chain.
+    Keyed(Vec<Bytes>),
+}
+
+impl Tie {
+    /// Of a value of this provenance.
+    pub(crate) fn of(alloc: Global, origin: &Option<Vec<Bytes>>) -> Result<Tie, AllocError>
+        ensures { IfOk result (λ t. tie_seen t ≡ tie_of (origin_of origin.now)) }
+    {
+        match origin {
+            Some(path) => Ok(Tie::Valued(join_paths(alloc, path.as_slice(), &[])?)),
+            None => Ok(Tie::Untied),
+        }
+    }
+
+    /// Of an index or a key of what has this provenance.
+    pub(crate) fn of_key(alloc: Global, over: &Option<Vec<Bytes>>) -> Result<Tie, AllocError>
+        ensures { IfOk result (λ t. tie_seen t ≡ key_tie (origin_of over.now)) }
+    {
+        match over {
+            Some(path) => Ok(Tie::Keyed(join_paths(alloc, path.as_slice(), &[])?)),
+            None => Ok(Tie::Untied),
+        }
+    }
+
+    /// A copy of it.
+    pub(crate) fn copy(&self, alloc: Global) -> Result<Tie, AllocError>
+        ensures { IfOk result (λ t. tie_seen t ≡ tie_seen self.now) }
+    {
+        match self {
+            Tie::Untied => Ok(Tie::Untied),
+            Tie::Valued(path) => Ok(Tie::Valued(join_paths(alloc, path.as_slice(), &[])?)),
+            Tie::Keyed(path) => Ok(Tie::Keyed(join_paths(alloc, path.as_slice(), &[])?)),
+        }
+    }
+
+    /// Whether what is known of the other is known of this one.
+    pub(crate) fn is_within(&self, other: &Tie) -> bool
+        ensures { result ≡ tie_within (tie_seen self.now) (tie_seen other.now) }
+    {
+        match (self, other) {
+            (_, Tie::Untied) => true,
+            (Tie::Valued(path), Tie::Valued(names)) => is_path(path.as_slice(), names.as_slice()),
+            (Tie::Keyed(path), Tie::Keyed(names)) => is_path(path.as_slice(), names.as_slice()),
+            (Tie::Untied | Tie::Keyed(_), Tie::Valued(_)) => false,
+            (Tie::Untied | Tie::Valued(_), Tie::Keyed(_)) => false,
+        }
+    }
+
+    /// What is known of both.
+    pub(crate) fn join(&self, other: &Tie, alloc: Global) -> Result<Tie, AllocError>
+        ensures { IfOk result (λ t. tie_seen t ≡ join_ties (tie_seen self.now) (tie_seen other.now)) }
+    {
+        if self.is_within(other) {
+            return other.copy(alloc);
+        }
+        Ok(Tie::Untied)
+    }
+}
 
 /// Puts copies of names after others.
 #[tactic(auto, using(std::proofs::lemmas::Grind::common_steps))]
@@ -101,7 +167,7 @@ pub(crate) fn rest_of<'n>(path: &[Bytes], names: &'n [Bytes]) -> Option<&'n [Byt
 }
 
 /// Whether chains are the same.
-fn is_path(path: &[Bytes], names: &[Bytes]) -> bool
+pub(crate) fn is_path(path: &[Bytes], names: &[Bytes]) -> bool
     ensures { result ≡ is_path path.now names.now }
 {
     match path {
@@ -114,31 +180,4 @@ fn is_path(path: &[Bytes], names: &[Bytes]) -> bool
             [name, rest @ ..] => first.as_slice() == name.as_slice() && is_path(others, rest),
         },
     }
-}
-
-/// Whether what is known of the second is known of the first.
-pub(crate) fn origin_within(origin: &Option<Vec<Bytes>>, other: &Option<Vec<Bytes>>) -> bool
-    ensures { result ≡ origin_within (origin_of origin.now) (origin_of other.now) }
-{
-    match other {
-        None => true,
-        Some(names) => match origin {
-            None => false,
-            Some(path) => is_path(path.as_slice(), names.as_slice()),
-        },
-    }
-}
-
-/// What is known of both.
-pub(crate) fn join_origins(
-    alloc: Global,
-    origin: &Option<Vec<Bytes>>,
-    other: &Option<Vec<Bytes>>,
-) -> Result<Option<Vec<Bytes>>, AllocError>
-    ensures { IfOk result (λ o. origin_of o ≡ join_origins (origin_of origin.now) (origin_of other.now)) }
-{
-    if origin_within(origin, other) {
-        return copy_origin(alloc, other);
-    }
-    Ok(None)
 }

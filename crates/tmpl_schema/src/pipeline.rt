@@ -10,21 +10,23 @@ ghost use Rattle.tmpl_funcs.specs.Func.{takes};
 ghost use Rattle.tmpl_shape.specs.View.{shape_of};
 ghost use Rattle.tmpl_shape.specs.computed.Calls.{kinds_shape};
 ghost use Rattle.tmpl_shape.specs.computed.View.{base_of, shape_seen};
-ghost use Rattle.tmpl_schema.specs.computed.Check.{absent_field, alone, command_shape, commands_shape, entry_along, entry_by, indexed_shape, junction_shape, operand_shape, pipeline_shape, printed_shape, sliced_shape, text_shape};
-ghost use Rattle.tmpl_schema.specs.computed.View.{argument_kinds, called_shape, in_context};
+ghost use Rattle.tmpl_schema.specs.computed.Check.{absent_field, alone, command_shape, commands_shape, entry_along, entry_at, entry_by, indexed_shape, is_index, junction_shape, operand_shape, own_entry, pipeline_shape, printed_shape, sliced_shape, text_shape};
+ghost use Rattle.tmpl_schema.specs.computed.View.{argument_kinds, called_shape, in_context, origin_of, state_of};
 
 use crate::facts::{Head, bounds_of, head_of, key_of, text_of};
-use crate::known::variable_shape;
-use crate::state::{State, narrow_operand};
+use crate::known::{variable_owner, variable_shape};
+use crate::origin::is_path;
+use crate::state::{State, narrow_operand, operand_origin};
 use std::alloc::{AllocError, Global};
 use tmpl_funcs::Func;
-use tmpl_grammar::{Command, Operand};
+use tmpl_grammar::{Binding, Command, Operand};
 use tmpl_meaning::MissingKey;
 use tmpl_shape::{
-    AbsentField, Base, Cause, Constant, Key, Kind, Kinds, Shape, Trouble, call_shape, chain_shape,
-    copy_counted, copy_name, fill, has_kind, index_shape, join, kinds_of, null_gone, part_shape,
-    printf_shape, within,
+    AbsentField, Base, Cause, Constant, Key, Kind, Kinds, Shape, Trouble, Visit, call_shape,
+    chain_shape, copy_counted, copy_name, fill, has_kind, index_shape, join, kinds_of, null_gone,
+    part_shape, printf_shape, visit_of, within,
 };
+use tmpl_values::Bytes;
 
 /// What stands for an absent field by the option `missingkey`.
 fn absent_field(mode: MissingKey) -> AbsentField
@@ -302,14 +304,21 @@ impl Context<'_> {
         if has_kind(self.base, Kind::Blank, &shape) {
             return Err(self.may_fail(Cause::Arguments(Func::Index)));
         }
-        self.entry_along(keys, piped, &shape)
+        let from = operand_origin(self.base.alloc, first, self.state)?;
+        self.entry_along(keys, piped, &from, &shape)
     }
 
-    /// The shape of what `index` gives for these keys of values of the shape.
+    /// The shape of what `index` gives for these keys of values of the shape, and of this provenance.
     #[cycle(pipeline)]
-    fn entry_along(&self, keys: &[Operand], piped: Option<&Shape>, shape: &Shape) -> Shaped
-        ensures { IfOk result (λ s. in_context self.now entry_along (operands_in keys.now) (shape_seen piped.entry) (shape_of shape.now)
-            ≡ Some (shape_of s)) }
+    fn entry_along(
+        &self,
+        keys: &[Operand],
+        piped: Option<&Shape>,
+        from: &Option<Vec<Bytes>>,
+        shape: &Shape,
+    ) -> Shaped
+        ensures { IfOk result (λ s. in_context self.now entry_along (operands_in keys.now) (shape_seen piped.entry) (origin_of from.now)
+            (shape_of shape.now) ≡ Some (shape_of s)) }
     {
         match keys {
             [] => match piped {
@@ -318,13 +327,58 @@ impl Context<'_> {
             },
             [first, rest @ ..] => {
                 let key = self.operand_shape(first)?;
-                let entry = match key_of(first) {
-                    Some(key) => index_shape(self.base, key, shape)?,
-                    None => self.entry_by(&key, shape)?,
-                };
-                self.entry_along(rest, piped, &entry)
+                let entry = self.entry_at(first, from, &key, shape)?;
+                let unknown: Option<Vec<Bytes>> = None;
+                self.entry_along(rest, piped, &unknown, &entry)
             }
         }
+    }
+
+    /// What `index` gives for the value of an operand, which has this shape, of values of a provenance.
+    fn entry_at(
+        &self,
+        operand: &Operand,
+        from: &Option<Vec<Bytes>>,
+        key: &Shape,
+        shape: &Shape,
+    ) -> Shaped
+        ensures { IfOk result (λ s. entry_at (base_of self.now.base.now) (state_of self.now.state.now) (operand_of operand.now) (origin_of from.now)
+            (shape_of key.now) (shape_of shape.now) ≡ Some (shape_of s)) }
+    {
+        if self.is_index(operand, from) {
+            return self.own_entry(shape);
+        }
+        match key_of(operand) {
+            Some(key) => index_shape(self.base, key, shape),
+            None => self.entry_by(key, shape),
+        }
+    }
+
+    /// Whether an operand is a variable that is an index or a key of what is at this chain.
+    fn is_index(&self, operand: &Operand, from: &Option<Vec<Bytes>>) -> bool
+        ensures { result ≡ is_index (state_of self.now.state.now) (operand_of operand.now) (origin_of from.now) }
+    {
+        let Operand::Variable { name, fields } = operand else {
+            return false;
+        };
+        match (fields.as_slice(), from) {
+            ([], Some(path)) => match variable_owner(name.as_slice(), &self.state.known) {
+                Some(names) => is_path(path.as_slice(), names),
+                None => false,
+            },
+            _ => false,
+        }
+    }
+
+    /// What `index` gives for one of the keys of a map, or for an index of an item of a list.
+    fn own_entry(&self, shape: &Shape) -> Shaped
+        ensures { IfOk result (λ s. own_entry (base_of self.now.base.now) (shape_of shape.now) ≡ Some (shape_of s)) }
+    {
+        if has_kind(self.base, Kind::Blank, shape) || has_kind(self.base, Kind::Number, shape) {
+            return Err(self.may_fail(Cause::Arguments(Func::Index)));
+        }
+        let Visit { element, .. } = visit_of(self.base, &Binding::Unbound, shape)?;
+        Ok(element)
     }
 
     /// What `index` gives for a key of this shape, which has to be a text.

@@ -7,7 +7,7 @@ ghost use Rattle.tmpl_grammar.specs.View.{commands_in, operand_of, operands_in};
 ghost use Rattle.tmpl_shape.specs.View.{shape_of};
 ghost use Rattle.tmpl_shape.specs.computed.View.{base_of, test_seen};
 ghost use Rattle.tmpl_schema.specs.computed.Check.{at_start, narrow, narrow_all, narrow_as, narrow_by, narrow_command, narrow_from, narrow_operand, narrow_root, narrow_to};
-ghost use Rattle.tmpl_schema.specs.computed.Check.{pipeline_origin, place_origin, root_origin};
+ghost use Rattle.tmpl_schema.specs.computed.Check.{operand_origin, pipeline_origin, place_origin, root_origin};
 ghost use Rattle.tmpl_schema.specs.computed.View.{fact_seen, narrow_call, narrow_piped, origin_of, place_seen, state_of};
 
 use crate::facts::{
@@ -17,7 +17,7 @@ use crate::facts::{
 use crate::known::{
     Known, copy_known, put_variable, refine_all, refine_from, refine_variable, variable_origin,
 };
-use crate::origin::{copy_origin, join_paths, place_path};
+use crate::origin::{Tie, copy_origin, join_paths, place_path};
 use std::alloc::{AllocError, Global};
 use std::rc::Rc;
 use tmpl_funcs::Func;
@@ -55,7 +55,7 @@ pub(crate) fn at_start(base: &Base<'_>, shape: &Shape) -> Result<State, AllocErr
     let origin: Vec<Bytes> = Vec::new(alloc);
     let of_variable: Vec<Bytes> = Vec::new(alloc);
     let shape = Rc::clone(&dot)?;
-    let known = put_variable(alloc, &[], shape, Some(of_variable), Known::Empty)?;
+    let known = put_variable(alloc, &[], shape, Tie::Valued(of_variable), Known::Empty)?;
     Ok(State {
         dot,
         origin: Some(origin),
@@ -103,6 +103,20 @@ pub(crate) fn pipeline_origin(
     ensures { IfOk result (λ o. origin_of o ≡ pipeline_origin (state_of state.now) (commands_in commands.now)) }
 {
     match pipeline_place(commands) {
+        Some(place) => place_origin(alloc, &place, state),
+        None => Ok(None),
+    }
+}
+
+/// Where the value of an operand is from.
+pub(crate) fn operand_origin(
+    alloc: Global,
+    operand: &Operand,
+    state: &State,
+) -> Result<Option<Vec<Bytes>>, AllocError>
+    ensures { IfOk result (λ o. origin_of o ≡ operand_origin (state_of state.now) (operand_of operand.now)) }
+{
+    match place_of(operand) {
         Some(place) => place_origin(alloc, &place, state),
         None => Ok(None),
     }

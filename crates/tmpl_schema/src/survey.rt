@@ -7,11 +7,11 @@ use crate::after::After;
 use crate::check::{Refusal, is_stop, mode_for};
 use crate::failure::{Doubt, Failure, Position};
 use crate::flow::{FallThrough, dot_after, fall_through, past_parts};
-use crate::known::{Known, after_parts, bind, copy_known};
+use crate::known::{Bound, Known, after_parts, bind, copy_known};
 use crate::loops::check_loop;
-use crate::node::{Checker, after_node, at_head, in_body, in_other, in_turn, settle_soon};
+use crate::node::{Checker, Turns, after_node, at_head, in_body, in_other, in_turn, settle_soon};
 use crate::room::first_crowded;
-use crate::state::{State, at_start, copy_state};
+use crate::state::{State, at_start, copy_state, pipeline_origin};
 use crate::table::{Call, Callee, Entry};
 use std::alloc::{AllocError, Global};
 use std::mem;
@@ -194,14 +194,13 @@ fn survey_node(
         }
         NodeKind::Action(header) => {
             found.add(walk, failure, Position::of(node))?;
-            bind(
-                &checker.base,
-                &header.binding,
-                &Shape::Never,
-                &Shape::Never,
-                &None,
-                &state.known,
-            )
+            let bound = Bound {
+                key: &Shape::Never,
+                over: &None,
+                element: &Shape::Never,
+                origin: &None,
+            };
+            bind(&checker.base, &header.binding, &bound, &state.known)
         }
         NodeKind::Text(_) | NodeKind::Break | NodeKind::Continue | NodeKind::Template(_, _) => {
             found.add(walk, failure, Position::of(node))?;
@@ -303,11 +302,22 @@ fn survey_range(
     };
     let start = at_head(&checker.base, header, state)?;
     let body = control.body.as_slice();
-    let known = match settle_soon(checker, &start, header, &visit, body) {
+    let over = pipeline_origin(
+        checker.base.alloc,
+        header.pipeline.commands.as_slice(),
+        state,
+    )?;
+    let turns = Turns {
+        header,
+        visit: &visit,
+        over: &over,
+        body,
+    };
+    let known = match settle_soon(checker, &start, &turns) {
         Ok(known) => known,
         Err(failure) => {
             let before = found.doubts.len().saturating_add(found.wanted.len());
-            let inside = in_turn(&checker.base, header, &visit, &start)?;
+            let inside = in_turn(&checker.base, &turns, &start)?;
             survey_nodes(walk, Some(&start), inside, body, found)?;
             if found.doubts.len().saturating_add(found.wanted.len()) == before {
                 found.add(walk, failure.into(), position)?;

@@ -20,7 +20,7 @@ use Rattle.tmpl_funcs.specs.Func.{takes}
 use Rattle.tmpl_funcs.specs.declared.func.Func.{Func}
 use Rattle.tmpl_funcs.specs.declared.func.Func.TheVariants.{And, Or, Not, Len, Index, Eq, Ne, Lt, Le, Gt, Ge}
 use Rattle.tmpl_meaning.specs.Pipeline.{operand_count}
-use Rattle.tmpl_shape.specs.declared.kind.Kind.TheVariants.{Blank}
+use Rattle.tmpl_shape.specs.declared.kind.Kind.TheVariants.{Blank, Number}
 use Rattle.tmpl_shape.specs.computed.Shapes.{Base, Test, has_least, is_among, is_apart, has_kind, within, join, both, fill, null_gone, refine, chain_shape}
 use Rattle.tmpl_shape.specs.computed.Shapes.{Key, of_name, of_text, of_place, index_shape, part_shape, Visit, visit_of}
 use Rattle.tmpl_shape.specs.computed.Calls.{call_shape, shape_by_function}
@@ -32,9 +32,31 @@ use Rattle.tmpl_schema.specs.declared.flow.FallThrough.TheVariants.{Both, Body, 
 abbrev pub Origin : Type 0
 Origin = Option (List (List ℕ))
 
--- the variables in scope, each with its shape and its provenance, the newest first
+-- how a variable is tied to the data of the template: it has the value at a chain of fields, or is an index or a key of that
+pub data Tie : Type 0 where
+  untied : Tie
+  valued keyed : List (List ℕ) → Tie
+
+abbrev pub tie_of : Origin → Tie
+tie_of None = untied
+tie_of (Some ps) = valued ps
+
+abbrev pub key_tie : Origin → Tie
+key_tie None = untied
+key_tie (Some ps) = keyed ps
+
+-- the chain at which its value is, and that of which it is an index or a key
+abbrev pub path_of : Tie → Origin
+path_of (valued ps) = Some ps
+path_of t = None
+
+abbrev pub owner_of : Tie → Origin
+owner_of (keyed ps) = Some ps
+owner_of t = None
+
+-- the variables in scope, each with its shape and its tie, the newest first
 abbrev pub Known : Type 0
-Known = List (List ℕ × Shape × Origin)
+Known = List (List ℕ × Shape × Tie)
 
 abbrev pub variable_shape : List ℕ → Known → Option Shape
 variable_shape name [] = None
@@ -42,17 +64,22 @@ variable_shape name (k ∷ ks) = if bytes_eq k.0 name then Some k.1 else variabl
 
 abbrev pub variable_origin : List ℕ → Known → Origin
 variable_origin name [] = None
-variable_origin name (k ∷ ks) = if bytes_eq k.0 name then k.2 else variable_origin name ks
+variable_origin name (k ∷ ks) = if bytes_eq k.0 name then path_of k.2 else variable_origin name ks
 
-abbrev pub assigned_shape : List ℕ → Shape → Origin → Known → Known
-assigned_shape name s o [] = []
-assigned_shape name s o (k ∷ ks) = if bytes_eq k.0 name then (k.0, s, o) ∷ ks else k ∷ assigned_shape name s o ks
+abbrev pub variable_owner : List ℕ → Known → Origin
+variable_owner name [] = None
+variable_owner name (k ∷ ks) = if bytes_eq k.0 name then owner_of k.2 else variable_owner name ks
 
-abbrev pub bound_shapes : Binding → Shape → Shape → Origin → Known → Known
-bound_shapes unbound k e o ks = ks
-bound_shapes (declare name) k e o ks = (name, e, o) ∷ ks
-bound_shapes (assign name) k e o ks = assigned_shape name e o ks
-bound_shapes (declare_pair key name) k e o ks = (name, e, o) ∷ (key, k, None) ∷ ks
+abbrev pub assigned_shape : List ℕ → Shape → Tie → Known → Known
+assigned_shape name s t [] = []
+assigned_shape name s t (k ∷ ks) = if bytes_eq k.0 name then (k.0, s, t) ∷ ks else k ∷ assigned_shape name s t ks
+
+-- .. where a header binds them to an element of this shape and provenance, which has a key of what is at a chain
+abbrev pub bound_shapes : Binding → Shape → Shape → Origin → Origin → Known → Known
+bound_shapes unbound k e over o ks = ks
+bound_shapes (declare name) k e over o ks = (name, e, tie_of o) ∷ ks
+bound_shapes (assign name) k e over o ks = assigned_shape name e (tie_of o) ks
+bound_shapes (declare_pair key name) k e over o ks = (name, e, tie_of o) ∷ (key, k, key_tie over) ∷ ks
 
 -- the oldest, as many as this
 abbrev pub last_of : {T : Type 0} → ℕ → List T → List T
@@ -290,15 +317,16 @@ is_path [] [] = true
 is_path (p ∷ ps) (n ∷ ns) = bytes_eq p n && is_path ps ns
 is_path ps ns = false
 
--- what is known of the second provenance is known of the first
-abbrev pub origin_within : Origin → Origin → Bool
-origin_within o None = true
-origin_within None (Some ns) = false
-origin_within (Some ps) (Some ns) = is_path ps ns
+-- what is known of the second tie is known of the first
+abbrev pub tie_within : Tie → Tie → Bool
+tie_within t untied = true
+tie_within (valued ps) (valued ns) = is_path ps ns
+tie_within (keyed ps) (keyed ns) = is_path ps ns
+tie_within t u = false
 
 -- what is known of both
-abbrev pub join_origins : Origin → Origin → Origin
-join_origins o p = if origin_within o p then p else None
+abbrev pub join_ties : Tie → Tie → Tie
+join_ties t u = if tie_within t u then u else untied
 
 -- dot and its provenance, and the variables
 pub record State : Type 0 where
@@ -328,6 +356,14 @@ pipeline_place p = None
 
 abbrev pub pipeline_origin : State → Pipeline → Origin
 pipeline_origin k p = option_and_then (place_origin k) (pipeline_place p)
+
+abbrev pub operand_origin : State → Operand → Origin
+operand_origin k o = option_and_then (place_origin k) (place_of o)
+
+-- an operand is a variable that is an index or a key of what is at this chain
+abbrev pub is_index : State → Operand → Origin → Bool
+is_index k (variable name []) (Some ps) = option_map_or (is_path ps) (variable_owner name k.env) false
+is_index k o from = false
 
 -- what is known of a template that is called: the shape of what it is handed, or that it is not there
 pub data Callee : Type 0 where
@@ -362,7 +398,7 @@ Checked = State → Option After
 
 -- a template's start over a value of the shape
 abbrev pub at_start : Shape → State
-at_start s = record { dot = s; from = Some []; env = ([], s, Some []) ∷ [] }
+at_start s = record { dot = s; from = Some []; env = ([], s, valued []) ∷ [] }
 
 -- a run never comes past the node
 abbrev pub is_absent : Option Callee → Bool
@@ -390,8 +426,8 @@ past_parts control.Range table body other = if any_diverges table other then Bod
 past_parts c table body other = fall_through table body other
 
 -- where a turn of a range begins
-abbrev pub in_turn : Header → Visit → Known → State
-in_turn h v ks = record { dot = v.element; from = None; env = bound_shapes h.binding v.key v.element None ks }
+abbrev pub in_turn : Header → Visit → Origin → Known → State
+in_turn h v over ks = record { dot = v.element; from = None; env = bound_shapes h.binding v.key v.element over None ks }
 
 -- a break or a continue leaves the range with the variables that were there at its head
 abbrev pub leave_with : Known → Option Known → Option After
@@ -416,19 +452,19 @@ module _ (base : Base) where
 
   abbrev pub refine_all : Test → List (List ℕ) → Known → Known
   refine_all test ns [] = []
-  refine_all test ns (k ∷ ks) = (k.0, refine_from test ns k.2 k.1, k.2) ∷ refine_all test ns ks
+  refine_all test ns (k ∷ ks) = (k.0, refine_from test ns (path_of k.2) k.1, k.2) ∷ refine_all test ns ks
 
   -- the same variables, each within the other's shape
   abbrev pub all_within : Known → Known → Bool
   all_within [] [] = true
-  all_within (k ∷ ks) (l ∷ ls) = bytes_eq k.0 l.0 && (within base k.1 l.1 && (origin_within k.2 l.2 && all_within ks ls))
+  all_within (k ∷ ks) (l ∷ ls) = bytes_eq k.0 l.0 && (within base k.1 l.1 && (tie_within k.2 l.2 && all_within ks ls))
   all_within ks ls = false
 
   -- the same variables, each with the values of both
   abbrev pub join_all : Known → Known → Option Known
   join_all [] [] = Some []
   join_all (k ∷ ks) (l ∷ ls) = if bytes_eq k.0 l.0 then
-      option_map (λ js. (k.0, join base k.1 l.1, join_origins k.2 l.2) ∷ js) (join_all ks ls) else None
+      option_map (λ js. (k.0, join base k.1 l.1, join_ties k.2 l.2) ∷ js) (join_all ks ls) else None
   join_all ks ls = None
 
   -- ---- pipelines
@@ -518,10 +554,18 @@ module _ (base : Base) where
   abbrev pub entry_by : Shape → Shape → Option Shape
   entry_by key s = if within base key texts then index_shape base of_text s else None
 
+  -- .. for one of its own keys, or for an index of a list
+  abbrev pub own_entry : Shape → Option Shape
+  own_entry s = if has_kind base Blank s || has_kind base Number s then None else option_map (λ v. v.element) (visit_of base unbound s)
+
   -- .. for a key that is written out, or has the shape
   abbrev pub entry_for : Option Key → Shape → Shape → Option Shape
   entry_for (Some k) key s = index_shape base k s
   entry_for None key s = entry_by key s
+
+  -- .. for the value of this operand
+  abbrev pub entry_at : State → Operand → Origin → Shape → Shape → Option Shape
+  entry_at k o from key s = if is_index k o from then own_entry s else entry_for (key_of o) key s
 
   abbrev mutual
     pub operand_shape : MissingKey → State → Operand → Option Shape
@@ -547,18 +591,18 @@ module _ (base : Base) where
         option_and_then (λ s. both base (Some (deciding_shape is_or s))
         (junction_shape is_or m (passed is_or o k) (passing_shape is_or s) os piped)) (operand_shape m k o)
 
-    -- what `index` gives of values of the shape for all its keys
-    pub entry_along : MissingKey → State → Operands → Option Shape → Shape → Option Shape
-    entry_along m k no_operand None s = Some s
-    entry_along m k no_operand (Some key) s = entry_by key s
-    entry_along m k (operand o os) piped s =
-        option_and_then (λ key. option_and_then (entry_along m k os piped) (entry_for (key_of o) key s)) (operand_shape m k o)
+    -- what `index` gives of values of the shape, and of this provenance, for all its keys
+    pub entry_along : MissingKey → State → Operands → Option Shape → Origin → Shape → Option Shape
+    entry_along m k no_operand None from s = Some s
+    entry_along m k no_operand (Some key) from s = entry_by key s
+    entry_along m k (operand o os) piped from s =
+        option_and_then (λ key. option_and_then (entry_along m k os piped None) (entry_at k o from key s)) (operand_shape m k o)
 
     -- the operands of an `index`, of which the first may not be nothing
     pub indexed_shape : MissingKey → State → Operands → Option Shape → Option Shape
     indexed_shape m k no_operand piped = None
     indexed_shape m k (operand o os) piped =
-        option_and_then (λ s. if has_kind base Blank s then None else entry_along m k os piped s) (operand_shape m k o)
+        option_and_then (λ s. if has_kind base Blank s then None else entry_along m k os piped (operand_origin k o) s) (operand_shape m k o)
 
     -- the operands of a `slice`, whose bounds are written out
     pub sliced_shape : MissingKey → State → Operands → Option Shape → Option Shape
@@ -605,7 +649,7 @@ module _ (base : Base) where
   abbrev pub join_parts : Known → Known → Known → Option Known
   join_parts [] [] [] = Some []
   join_parts (r ∷ rs) (k ∷ ks) (l ∷ ls) = if bytes_eq k.0 l.0 then
-      option_map (λ js. (k.0, join_to r.1 k.1 l.1, join_origins k.2 l.2) ∷ js) (join_parts rs ks ls) else None
+      option_map (λ js. (k.0, join_to r.1 k.1 l.1, join_ties k.2 l.2) ∷ js) (join_parts rs ks ls) else None
   join_parts rs ks ls = None
 
   -- the variables that were there before, after two parts
@@ -635,19 +679,19 @@ module _ (base : Base) where
   join_left (Some ks) ls = option_map (λ js. Some js) (with_left ks ls)
 
   -- the variables after a turn, however it ends
-  abbrev pub turn_known : Header → Visit → (Option Known → Checked) → Known → Option Known
-  turn_known h v body ks = option_and_then (λ a. with_left (last_of (length ks) a.env) a.left) (body (Some ks) (in_turn h v ks))
+  abbrev pub turn_known : Header → Visit → Origin → (Option Known → Checked) → Known → Option Known
+  turn_known h v over body ks = option_and_then (λ a. with_left (last_of (length ks) a.env) a.left) (body (Some ks) (in_turn h v over ks))
 
   -- where an `if` or a `with` goes on with its body, and with its other part
   abbrev pub in_body : Control → Header → State → Shape → State
   in_body c h k s =
       let u = narrow true h.pipeline k in
       let o = pipeline_origin k h.pipeline in
-      record { dot = dot_in c (fill base s) u.dot; from = dot_in c o u.from; env = bound_shapes h.binding nothings (fill base s) o u.env }
+      record { dot = dot_in c (fill base s) u.dot; from = dot_in c o u.from; env = bound_shapes h.binding nothings (fill base s) None o u.env }
 
   abbrev pub in_other : Header → State → Shape → State
   in_other h k s =
-      let u = narrow false h.pipeline k in record u { env = bound_shapes h.binding nothings s (pipeline_origin k h.pipeline) u.env }
+      let u = narrow false h.pipeline k in record u { env = bound_shapes h.binding nothings s None (pipeline_origin k h.pipeline) u.env }
 
   -- .. of which a run may come past these
   abbrev pub after_parts : FallThrough → Known → Known → Known → Option Known
@@ -681,7 +725,7 @@ module _ (base : Base) where
 
   abbrev pub after_range : FallThrough → Header → State → (Option Known → Checked) → Checked → Visit → Option After
   after_range w h k body other v =
-      option_and_then (λ head. option_and_then (end_parts w k.env (past head)) (other k)) (settle_soon (turn_known h v body) (at_head h k))
+      option_and_then (λ head. option_and_then (end_parts w k.env (past head)) (other k)) (settle_soon (turn_known h v (pipeline_origin k h.pipeline) body) (at_head h k))
 
   abbrev pub after_control :
       FallThrough → Control → Option Known → Header → State → (Option Known → Checked) → Checked → Shape → Option After
@@ -699,7 +743,7 @@ module _ (base : Base) where
     pub after_node : MissingKey → Table → Option Known → State → NodeKind → Option After
     after_node m table loop k (text bytes) = Some (past k.env)
     after_node m table loop k (action h) =
-        option_map (λ s. past (bound_shapes h.binding nothings s (pipeline_origin k h.pipeline) k.env)) (pipeline_shape m k h.pipeline)
+        option_map (λ s. past (bound_shapes h.binding nothings s None (pipeline_origin k h.pipeline) k.env)) (pipeline_shape m k h.pipeline)
     after_node m table loop k (control_node c h body other) =
         if holds_loop loop k.env then option_and_then
         (after_control (past_parts c table body other) c loop h k (λ l u. after_nodes m table l None u body) (λ u. after_nodes m table loop None u other))

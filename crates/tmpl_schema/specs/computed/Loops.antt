@@ -13,7 +13,7 @@ use Rattle.tmpl_loops.specs.Form.{Names, are_all_seen, is_yes, lone, slices}
 use Rattle.tmpl_loops.specs.computed.Find.{Parts, after_texts, are_apart, differ, is_call, is_end, names_of, parts_of}
 use Rattle.tmpl_shape.specs.Shape.{nothings, numbers, texts}
 use Rattle.tmpl_shape.specs.computed.Shapes.{Base}
-use Rattle.tmpl_schema.specs.computed.Check.{State, pipeline_shape}
+use Rattle.tmpl_schema.specs.computed.Check.{State, pipeline_shape, untied}
 
 -- ---- a turn
 
@@ -53,7 +53,7 @@ abbrev pub byte_state : Parts → State
 byte_state p = record {
   dot = nothings;
   from = None;
-  env = (p.byte, numbers, None) ∷ (p.index, numbers, None) ∷ (p.text, texts, None) ∷ [];
+  env = (p.byte, numbers, untied) ∷ (p.index, numbers, untied) ∷ (p.text, texts, untied) ∷ [];
 }
 
 -- nodes of these parts are a copy loop

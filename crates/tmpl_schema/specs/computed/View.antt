@@ -15,7 +15,7 @@ use Rattle.tmpl_schema.specs.declared.facts.Head as held_head
 use Rattle.tmpl_schema.specs.declared.facts.Head.TheVariants as head
 use Rattle.tmpl_schema.specs.declared.facts.Place as held_place
 use Rattle.tmpl_schema.specs.computed.Check.{Fact, Head, calls, is_nil, is_value, Place, texts_in}
-use Rattle.tmpl_schema.specs.computed.Check.{Known, Origin, State, After, Callee, Table, handed, absent, past, operand_shapes, after_choice, after_nodes}
+use Rattle.tmpl_schema.specs.computed.Check.{Known, Origin, Tie, untied, valued, keyed, State, After, Callee, Table, handed, absent, past, operand_shapes, after_choice, after_nodes}
 use Rattle.tmpl_schema.specs.computed.Check.{after_range, fall_through, past_parts, bound_shapes, call_state, command_call, counts_in, narrow_all, narrow_as, piped_fact, pipeline_origin, pipeline_shape, turn_known}
 use Rattle.tmpl_grammar.specs.Tree.{Header}
 use Rattle.tmpl_syntax.specs.Tree.{Nodes}
@@ -32,6 +32,8 @@ use Rattle.tmpl_shape.specs.computed.Shapes as computed
 use Rattle.tmpl_shape.specs.computed.Shapes.{kinds_of, visit_of}
 use Rattle.tmpl_schema.specs.declared.after.After as held_after
 use Rattle.tmpl_schema.specs.declared.known.Known as held_known
+use Rattle.tmpl_schema.specs.declared.origin.Tie as held_tie
+use Rattle.tmpl_schema.specs.declared.origin.Tie.TheVariants as tie
 use Rattle.tmpl_schema.specs.declared.known.Known.{fold-Known}
 use Rattle.tmpl_schema.specs.declared.known.Known.TheOpen.{Known-F, Variable-F}
 use Rattle.tmpl_schema.specs.declared.pipeline.Context as held_context
@@ -40,12 +42,17 @@ use Rattle.tmpl_schema.specs.declared.state.State as held_state
 abbrev pub origin_of : Option (Vec (List ℕ) Global) → Origin
 origin_of o = option_map (λ path. path.items) o
 
+abbrev pub tie_seen : held_tie.Tie → Tie
+tie_seen (tie.Valued path) = valued path.items
+tie_seen (tie.Keyed path) = keyed path.items
+tie_seen tie.Untied = untied
+
 abbrev pub known_step : Known-F Known Known → Known
 known_step Known-F.Empty = []
 known_step (Known-F.More v) = v.value
 
 abbrev pub variable_step : Variable-F Known Known → Known
-variable_step v = (v.name, shape_of v.shape.value, origin_of v.origin) ∷ v.older
+variable_step v = (v.name, shape_of v.shape.value, tie_seen v.tie) ∷ v.older
 
 abbrev pub known_of : held_known.Known → Known
 known_of = fold-Known Known Known known_step variable_step
@@ -118,11 +125,11 @@ table_of (e ∷ es) x = if bytes_eq x e.name then Some (callee_of e.callee) else
 -- what is known after an action
 abbrev pub after_action : computed.Base → MissingKey → State → Header → Option After
 after_action base m k h =
-    option_map (λ s. past (bound_shapes h.binding spec.nothings s (pipeline_origin k h.pipeline) k.env)) (pipeline_shape base m k h.pipeline)
+    option_map (λ s. past (bound_shapes h.binding spec.nothings s None (pipeline_origin k h.pipeline) k.env)) (pipeline_shape base m k h.pipeline)
 
 -- after a turn of a range with this body
-abbrev pub turn_by : computed.Base → MissingKey → Table → Header → computed.Visit → Nodes → Known → Option Known
-turn_by base m table h v body = turn_known base h v (λ l u. after_nodes base m table l None u body)
+abbrev pub turn_by : computed.Base → MissingKey → Table → Header → computed.Visit → Origin → Nodes → Known → Option Known
+turn_by base m table h v over body = turn_known base h v over (λ l u. after_nodes base m table l None u body)
 
 -- after an `if` or a `with`, and after a range, by their nodes
 abbrev pub after_choice_by :

@@ -22,13 +22,13 @@ abbrev pub decreases-after_range : goal.decreases-after_range
 decreases-after_range l = 60 * (nodes_weight (nodes_in l.parts.now.body.now) + nodes_weight (nodes_in l.parts.now.other.now)) + 30
 
 abbrev pub decreases-settle_soon : goal.decreases-settle_soon
-decreases-settle_soon l = 60 * nodes_weight (nodes_in l.body.now) + 19
+decreases-settle_soon l = 60 * nodes_weight (nodes_in l.turns.now.body.now) + 19
 
 abbrev pub decreases-settle : goal.decreases-settle
-decreases-settle l = 60 * nodes_weight (nodes_in l.body.now) + (l.rounds + 5)
+decreases-settle l = 60 * nodes_weight (nodes_in l.turns.now.body.now) + (l.rounds + 5)
 
 abbrev pub decreases-turn : goal.decreases-turn
-decreases-turn l = 60 * nodes_weight (nodes_in l.body.now) + 4
+decreases-turn l = 60 * nodes_weight (nodes_in l.turns.now.body.now) + 4
 
 abbrev pub invariant-after_nodes-loop-node : goal.invariant-after_nodes-loop-node
 invariant-after_nodes-loop-node l =
