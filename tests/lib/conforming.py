@@ -453,6 +453,19 @@ def drawn_found(draw, scope):
     return line.replace("PAST", past).replace("USED", used)
 
 
+def drawn_by_its_key(draw, scope):
+    """A range, and in it what is at its index or key, mostly of what it ranges over."""
+    place = draw.choice(["$.a", "$.a", "$.b", "$.a.b", "$r", drawn_path(draw, scope)])
+    other = draw.choice([place, place, place, place, "$.a", "$.c", "(slice %s)" % place])
+    start = "{{$r := %s}}" % draw.choice(["$.a", "$", ".b"]) if "$r" in (place, other) else ""
+    used = draw.choice(["{{len (index P $i)}}", "{{(index P $i).a}}", "{{lt (index P $i) 3}}", '{{printf "%s" (index P $i)}}', "{{range index P $i}}{{end}}", "{{index P $i $i}}",
+                        "{{index P $i 0}}", '{{index P $i "a"}}', "{{with index P $i}}{{.a}}{{end}}"])
+    change = draw.choice(["", "", "", "{{$i = 1}}", '{{$i = "a"}}', "{{if $e}}{{break}}{{end}}"] + ["{{$r = .}}"] * bool(start))
+    form = draw.choice(["{{range $i, $e := P}}USED{{$e}}CHANGE{{end}}", "{{range $i, $e := P}}CHANGE{{$e}}USED{{end}}", "{{range $i, $e := P}}{{if $e}}USED{{end}}{{end}}",
+                        "{{range $i, $e := P}}{{range $e}}USED{{end}}{{end}}"])
+    return start + form.replace("USED", used.replace("P", other)).replace("CHANGE", change).replace("P", place)
+
+
 def drawn_own_range(draw, scope):
     """A range, in it what is known of what it ranges over, and past it what is not."""
     place = draw.choice(["$.", "$.", "$r."]) + draw.choice(["a", "b", "c", "a.b"])
@@ -468,7 +481,7 @@ def drawn_line(draw, depth, scope):
     """A part of a template, over dot and the variables in scope."""
     path = drawn_path(draw, scope)
     if draw.random() < 0.4:
-        return draw.choice([drawn_printf, drawn_index, drawn_part, drawn_part, drawn_comparison, drawn_tagged, drawn_tagged, drawn_leaving, drawn_leaving, drawn_own_range, drawn_found])(draw, scope)
+        return draw.choice([drawn_printf, drawn_index, drawn_part, drawn_part, drawn_comparison, drawn_tagged, drawn_tagged, drawn_leaving, drawn_leaving, drawn_own_range, drawn_found, drawn_by_its_key])(draw, scope)
     kind = draw.randrange(10) if depth else 0
     inner = "".join(drawn_line(draw, depth - 1, scope) for _ in range(draw.randrange(1, 3))) if depth else ""
     if kind == 0:

@@ -39,8 +39,8 @@ fn absent_field(mode: MissingKey) -> AbsentField
     }
 }
 
-/// The shape of a text that is written out: one that is empty is told from others, since a variable may hold it until
-/// another value is found.
+/// The shape of a text that is written out: an empty one has a shape of its own, since a variable may hold it until another
+/// value is found.
 fn text_shape(alloc: Global, text: &[u8]) -> Result<Shape, AllocError>
     ensures { IfOk result (λ s. shape_of s ≡ text_shape text.now) }
 {

@@ -91,7 +91,7 @@ absent_field mode.Error = absent_as.Fault
 absent_field mode.Zero = absent_as.Null
 absent_field m = absent_as.Nothing
 
--- the shape of a text that is written out: one that is empty is told from others
+-- the shape of a text that is written out: an empty one has a shape of its own
 abbrev pub text_shape : List ℕ → Shape
 text_shape [] = exactly (constant.Text [])
 text_shape (b ∷ bs) = texts
