@@ -6,3 +6,4 @@ pub mod ConformLemmas
 pub mod MeetLemmas
 pub mod KnownLemmas
 pub mod BaseLemmas
+pub mod ProvenanceLemmas

@@ -58,6 +58,15 @@ pub there-by : (name : List ℕ) (es : List (String Global × tree.Value)) (r : 
 there-by name es None p e = cc
 there-by name es (Some x) p e = subst IsSome (ap (option_map view) p ∙ view-lookup name es) refl
 
+-- what is so of what a map has for a key
+pub of-lookup : (P : Data → Type 0) (k : List ℕ) (d : Data) (o : Option (Bor tree.Value)) → option_map (λ (x : Bor tree.Value). view x.now) o ≡ get k d
+    → IfSome o (λ x. P (view x.now)) → IfSome (get k d) P
+of-lookup P k d o is h = subst (λ r. IfSome r P) is (mapped-back o h)
+  where
+    mapped-back : (o : Option (Bor tree.Value)) → IfSome o (λ x. P (view x.now)) → IfSome (option_map (λ (x : Bor tree.Value). view x.now) o) P
+    mapped-back None h = tt
+    mapped-back (Some x) h = h
+
 -- ---- loops
 
 pub one-more : {A : Type 0} (P : A → Type 0) (xs : List A) (i : ℕ) (x : A) → i < length xs → x ≡ get_or xs i x → AllByRecursion P (take i xs) → P x

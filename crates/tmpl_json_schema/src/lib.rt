@@ -3,7 +3,6 @@
 
 mod base;
 mod conform;
-mod decided;
 mod draft;
 mod draw;
 mod edit;

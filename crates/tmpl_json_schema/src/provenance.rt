@@ -1,7 +1,11 @@
 //! Where in a document values come from: at which places a schema stands that they conform to.
 
-ghost use Rattle.std.specs.Prelude.{◌≡◌};
+ghost use Rattle.std.specs.Prelude.{◌≡◌, ◌&&◌, IfOk, OnOk, [], ◌∷◌, false, map};
+ghost use Rattle.std.specs.List.{list_any};
+ghost use Rattle.std.specs.Str.{bytes_eq};
+ghost use Rattle.std.specs.String.{string_bytes};
 ghost use Rattle.tmpl_json_schema.specs.declared.provenance.Lost.TheVariants as lost;
+ghost use Rattle.tmpl_json_schema.specs.Provenance.{AreSame, IsAt, IsOfEither, places_of, with_place, with_places};
 
 use crate::Result;
 use crate::fault::SchemaFault;
@@ -54,7 +58,9 @@ pub struct Provenance {
 
 impl Provenance {
     /// That of no value.
-    pub fn of_nothing(alloc: Global) -> Provenance {
+    pub fn of_nothing(alloc: Global) -> Provenance
+        ensures { IsAt [] result }
+    {
         Provenance {
             places: Vec::new(alloc),
             is_there: true,
@@ -63,19 +69,20 @@ impl Provenance {
     }
 
     /// That of the data of the document.
-    pub fn of_data(alloc: Global) -> Result<Provenance, Lost> {
+    pub fn of_data(alloc: Global) -> Result<Provenance, Lost>
+        ensures { IfOk result (IsAt ([] ∷ [])) }
+    {
         let mut provenance = Provenance::of_nothing(alloc);
         provenance.add(String::new(alloc))?;
         Ok(provenance)
     }
 
     /// Adds a place.
-    fn add(&mut self, place: String) -> Result<(), Lost> {
-        if self
-            .places
-            .iter()
-            .any(|other| other.as_str() == place.as_str())
-        {
+    fn add(&mut self, place: String) -> Result<(), Lost>
+        ensures places { OnOk result (places_of self.new ≡ with_place (places_of self.old) (string_bytes place)) }
+        ensures known { (self.new.is_there ≡ self.old.is_there) × (self.new.is_whole ≡ self.old.is_whole) }
+    {
+        if has_place(self.places.as_slice(), place.as_str()) {
             return Ok(());
         }
         if self.places.len() >= MOST_PLACES {
@@ -90,16 +97,52 @@ impl Provenance {
     }
 
     /// Adds that of another value. Gives whether it is more than before.
-    pub fn widen(&mut self, other: &Provenance) -> Result<bool, Lost> {
+    pub fn widen(&mut self, other: &Provenance) -> Result<bool, Lost>
+        ensures either { OnOk result (IsOfEither self.old other.now self.new) }
+        ensures same { IfOk result (λ is_more. is_more ≡ false → AreSame self.old self.new) }
+    {
         let before = self.places.len();
+        let is_less_known = self.doubt(other);
+        self.add_all(other.places.as_slice())?;
+        Ok(is_less_known || self.places.len() > before)
+    }
+
+    /// Knows no more than the other of whether it is there and whole. Gives whether that is less than before.
+    fn doubt(&mut self, other: &Provenance) -> bool
+        ensures places { places_of self.new ≡ places_of self.old }
+        ensures there { self.new.is_there ≡ (self.old.is_there && other.now.is_there) }
+        ensures whole { self.new.is_whole ≡ (self.old.is_whole && other.now.is_whole) }
+        ensures same { result ≡ false → (self.new.is_there ≡ self.old.is_there) × (self.new.is_whole ≡ self.old.is_whole) }
+    {
         let is_less_known = (self.is_there && !other.is_there)
             || (self.is_whole && !other.is_whole);
         self.is_there = self.is_there && other.is_there;
         self.is_whole = self.is_whole && other.is_whole;
-        for place in other.places.as_slice() {
-            self.add(place.clone()?)?;
+        is_less_known
+    }
+
+    /// Adds copies of places.
+    fn add_all(&mut self, places: &[String]) -> Result<(), Lost>
+        ensures places { OnOk result (places_of self.new ≡ with_places (places_of self.old) (map string_bytes places.now)) }
+        ensures known { (self.new.is_there ≡ self.old.is_there) × (self.new.is_whole ≡ self.old.is_whole) }
+    {
+        match places {
+            [] => Ok(()),
+            [first, rest @ ..] => {
+                self.add(first.clone()?)?;
+                self.add_all(rest)
+            }
         }
-        Ok(is_less_known || self.places.len() > before)
+    }
+}
+
+/// Whether it is one of the places.
+fn has_place(places: &[String], place: &str) -> bool
+    ensures { result ≡ list_any (bytes_eq place.now) (map string_bytes places.now) }
+{
+    match places {
+        [] => false,
+        [first, rest @ ..] => place == first.as_str() || has_place(rest, place),
     }
 }
 

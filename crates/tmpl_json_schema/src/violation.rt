@@ -1,9 +1,8 @@
 //! Where a value does not conform to a schema: the keywords that it does not meet, each with the way to the value and
-//! to the keyword. Only what is certain is reported: what a `pattern` or a `format` asks of a string is not looked at.
+//! to the keyword. Only what is certain is reported.
 
 use crate::Result;
-use crate::conform::{LEVELS, conforms, follow_reference, is_property, is_small};
-use crate::draft::draft_seen;
+use crate::conform::{Conformity, Judge, LEVELS, follow_reference, has_effect, is_property};
 use serde_json::{Map, Value, put};
 use std::alloc::{AllocError, Global};
 use std::mem::replace;
@@ -74,6 +73,12 @@ pub fn violations_of(
 }
 
 impl<'w> Walk<'w> {
+    /// Judges by this many levels.
+    fn at(&self, levels: usize) -> Judge<'w> {
+        let root = self.root;
+        Judge { root, levels }
+    }
+
     /// Adds where a value does not conform to a schema.
     #[cycle(violation)]
     fn visit(&mut self, levels: usize, schema: &'w Value, value: &Value) -> Result<()> {
@@ -81,7 +86,7 @@ impl<'w> Walk<'w> {
             return Ok(());
         }
         self.left -= 1;
-        if conforms(self.root, levels, schema, value) {
+        if let Conformity::Yes = self.at(levels).judge(schema, value) {
             return Ok(());
         }
         match schema {
@@ -119,13 +124,12 @@ impl<'w> Walk<'w> {
         rule: &'w Value,
         value: &Value,
     ) -> Result<()> {
-        if !self.is_used(schema, keyword) {
+        if !has_effect(self.root, schema, keyword) {
             return Ok(());
         }
         match (keyword, value) {
             ("$ref", _) => self.visit_reference(levels, rule, value),
             ("allOf", _) => self.visit_each(levels, rule, value),
-            ("anyOf" | "oneOf", _) => self.visit_choices(levels, keyword, rule, value),
             ("properties", Value::Object(members)) => self.visit_properties(levels, rule, members),
             ("additionalProperties", Value::Object(members))
                 if schema.get("patternProperties").is_none() => {
@@ -135,19 +139,10 @@ impl<'w> Walk<'w> {
                 self.visit_items(levels, rule, items.as_slice())
             }
             ("required", Value::Object(members)) => self.visit_required(rule, members),
-            _ => self.visit_plain(schema, keyword, rule, value),
-        }
-    }
-
-    /// Whether a keyword has an effect. Before 2019-09 none has beside a `$ref`, and `dependentRequired` has none.
-    fn is_used(&self, schema: &Value, keyword: &str) -> bool {
-        if draft_seen(self.root).is_since_2019() {
-            return true;
-        }
-        match keyword {
-            "$ref" => true,
-            "dependentRequired" => false,
-            _ => schema.get("$ref").is_none(),
+            _ => match self.at(levels).judge_rule(schema, keyword, rule, value) {
+                Conformity::No => self.add_unmet(levels, keyword, rule, value),
+                Conformity::Yes | Conformity::Unknown => Ok(()),
+            },
         }
     }
 
@@ -184,50 +179,6 @@ impl<'w> Walk<'w> {
             let _ = self.way.pop();
         }
         Ok(())
-    }
-
-    /// Adds that a value conforms to none of these schemas, or to more than one where one alone is wanted.
-    #[cycle(violation)]
-    fn visit_choices(
-        &mut self,
-        levels: usize,
-        keyword: &str,
-        schemas: &'w Value,
-        value: &Value,
-    ) -> Result<()> {
-        let Value::Array(schemas) = schemas else {
-            return Ok(());
-        };
-        let before = self.found.len();
-        let mut refused: usize = 0;
-        let mut met: usize = 0;
-        for schema in schemas {
-            if conforms(self.root, levels, schema, value) {
-                met = met.saturating_add(1);
-            } else if self.is_refused(levels, schema, value)? {
-                refused = refused.saturating_add(1);
-            }
-        }
-        self.found.truncate(before);
-        if refused == schemas.len() {
-            return self.add_about(value, " conforms to none of \"", keyword, "\"");
-        }
-        if keyword == "oneOf" && met > 1 {
-            return self.add_about(value, " conforms to more than one of \"", keyword, "\"");
-        }
-        Ok(())
-    }
-
-    /// Whether a value is seen not to conform to a schema.
-    #[cycle(violation)]
-    fn is_refused(&mut self, levels: usize, schema: &'w Value, value: &Value) -> Result<bool> {
-        let most = replace(&mut self.most, usize::MAX);
-        let before = self.found.len();
-        self.visit(levels, schema, value)?;
-        let is_refused = self.found.len() > before;
-        self.found.truncate(before);
-        self.most = most;
-        Ok(is_refused)
     }
 
     /// Adds where the values of properties do not conform to their schemas.
@@ -307,48 +258,27 @@ impl<'w> Walk<'w> {
         Ok(())
     }
 
-    /// Adds that a value does not meet a keyword that speaks of nothing inside it.
-    fn visit_plain(
+    /// Adds that a value does not meet a keyword.
+    fn add_unmet(
         &mut self,
-        schema: &Value,
+        levels: usize,
         keyword: &str,
         rule: &Value,
         value: &Value,
     ) -> Result<()> {
-        let Some(words) = words_for(keyword) else {
-            return Ok(());
-        };
-        if !is_exact(rule, value) || self.meets_alone(schema, keyword, rule, value)? {
-            return Ok(());
-        }
-        let rule = shown(self.alloc, rule)?;
-        let value = shown(self.alloc, value)?;
-        let text = format!(in self.alloc; "{value} {words} \"{keyword}\": {rule}")?;
-        self.push(text)
-    }
-
-    /// Whether a value meets a keyword, by itself and its twin of draft-04.
-    fn meets_alone(
-        &self,
-        schema: &Value,
-        keyword: &str,
-        rule: &Value,
-        value: &Value,
-    ) -> Result<bool> {
-        let mut rules: Map<String, Value> = Map::new(self.alloc);
-        put(&mut rules, self.alloc, keyword, rule.clone()?)?;
-        for twin in ["exclusiveMinimum", "exclusiveMaximum"] {
-            if let Some(Value::Bool(is_strict)) = schema.get(twin) {
-                put(&mut rules, self.alloc, twin, Value::Bool(*is_strict))?;
+        let shown_value = shown(self.alloc, value)?;
+        let text = match keyword {
+            "anyOf" | "oneOf" => {
+                let is_none = self.at(levels).count_met(rule, value).met == 0;
+                let many = if is_none { "none" } else { "more than one" };
+                format!(in self.alloc; "{shown_value} conforms to {many} of \"{keyword}\"")?
             }
-        }
-        Ok(conforms(self.root, LEVELS, &Value::Object(rules), value))
-    }
-
-    /// Adds what is wrong about a value.
-    fn add_about(&mut self, value: &Value, before: &str, keyword: &str, after: &str) -> Result<()> {
-        let value = shown(self.alloc, value)?;
-        let text = format!(in self.alloc; "{value}{before}{keyword}{after}")?;
+            _ => {
+                let words = words_for(keyword);
+                let rule = shown(self.alloc, rule)?;
+                format!(in self.alloc; "{shown_value} {words} \"{keyword}\": {rule}")?
+            }
+        };
         self.push(text)
     }
 
@@ -376,39 +306,27 @@ impl<'w> Walk<'w> {
     }
 }
 
-/// The words about a value that does not meet a keyword, before the keyword; none for one that is not looked at.
-fn words_for(keyword: &str) -> Option<&'static str> {
+/// The words about a value that does not meet a keyword, before the keyword.
+fn words_for(keyword: &str) -> &'static str {
     match keyword {
-        "type" => Some("is not of"),
-        "const" => Some("is not"),
-        "enum" => Some("is none of"),
-        "minimum" => Some("is below"),
-        "maximum" => Some("is above"),
-        "minLength" => Some("is shorter than"),
-        "maxLength" => Some("is longer than"),
-        "exclusiveMinimum" => Some("is not above"),
-        "exclusiveMaximum" => Some("is not below"),
-        "multipleOf" => Some("is no multiple of"),
-        "minItems" | "minProperties" => Some("has fewer than"),
-        "maxItems" | "maxProperties" => Some("has more than"),
-        "uniqueItems" => Some("has an item twice, against"),
-        "dependentRequired" => Some("lacks a key of"),
-        _ => None,
+        "type" => "is not of",
+        "const" => "is not",
+        "enum" => "is none of",
+        "minimum" => "is below",
+        "maximum" => "is above",
+        "minLength" => "is shorter than",
+        "maxLength" => "is longer than",
+        "exclusiveMinimum" => "is not above",
+        "exclusiveMaximum" => "is not below",
+        "multipleOf" => "is no multiple of",
+        "minItems" | "minProperties" => "has fewer than",
+        "maxItems" | "maxProperties" => "has more than",
+        "uniqueItems" => "has an item twice, against",
+        "dependentRequired" => "lacks a key of",
+        "contains" => "has no item of",
+        "not" => "conforms to",
+        _ => "breaks",
     }
-}
-
-/// Whether a rule about a value is decided exactly: no float is compared.
-fn is_exact(rule: &Value, value: &Value) -> bool {
-    let is_compared = match value {
-        Value::Number(number) => is_small(number),
-        _ => true,
-    };
-    is_compared
-        && match rule {
-            Value::Number(number) => !number.is_f64(),
-            Value::Array(values) => !values.iter().any(Value::is_f64),
-            _ => true,
-        }
 }
 
 /// A value as JSON, of which two dots follow the beginning where it is long.

@@ -16,12 +16,6 @@ decreases-visit_reference l = 10 * l.levels + 5
 abbrev pub decreases-visit_each : goal.decreases-visit_each
 decreases-visit_each l = 10 * l.levels + 5
 
-abbrev pub decreases-visit_choices : goal.decreases-visit_choices
-decreases-visit_choices l = 10 * l.levels + 5
-
-abbrev pub decreases-is_refused : goal.decreases-is_refused
-decreases-is_refused l = 10 * l.levels + 3
-
 abbrev pub decreases-visit_properties : goal.decreases-visit_properties
 decreases-visit_properties l = 10 * l.levels + 5
 
