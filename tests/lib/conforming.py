@@ -25,8 +25,17 @@ def is_equal(one, other):
     return json.dumps(one, sort_keys=True) == json.dumps(other, sort_keys=True)
 
 
+def name_of(root, schema):
+    """The name of a definition, as its draft writes it."""
+    if year(root) >= 2019:
+        return schema.get("$anchor", schema.get("$dynamicAnchor"))
+    return schema.get("id" if year(root) == 4 else "$id", "#")[1:]
+
+
 def pointed(root, reference):
     """What a reference within a document points to; the names in the schemas that are drawn have no escapes but these."""
+    if reference[1:] and not reference.startswith("#/"):
+        return next(it for key in ("$defs", "definitions") for it in root.get(key, {}).values() if name_of(root, it) == reference[1:])
     at = root
     for part in filter(None, reference[1:].replace("%25", "%").split("/")):
         at = at[part.replace("~1", "/").replace("~0", "~")]
@@ -227,7 +236,18 @@ def drawn_document(draw):
     while stands_for_itself(own):
         own = drawn_object(draw, 3)
     schema = {"$schema": head, "title": "drawn", **own, "$defs": names}
+    if draw.random() < 0.3:
+        schema = by_name(schema, draw.choice(["$anchor", "$dynamicAnchor"]))
     return in_draft_04(schema) if head == DRAFT_04 else in_2020(schema) if head == HEAD else schema
+
+
+def by_name(schema, keyword):
+    """A document that is drawn, of which a definition has a name, and each reference to that is by this."""
+    if year(schema) >= 2019:
+        schema["$defs"]["n"][keyword] = "some"
+    else:
+        schema["$defs"]["n"]["id" if year(schema) == 4 else "$id"] = "#some"
+    return json.loads(json.dumps(schema).replace('"#/$defs/n"', '"#some"'))
 
 
 def stands_for_itself(schema):

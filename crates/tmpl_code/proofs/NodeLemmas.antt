@@ -11,23 +11,6 @@ use Rattle.tmpl_code.specs.Code.{Code, Exit, NodeAt, NodesAt, StepAt, step_of_ca
 use Rattle.tmpl_code.specs.Layout.{Layout, bound_on, after_node}
 use Rattle.tmpl_code.specs.computed.Held.{StepBy, bound_off, shrunk, all_grown, number_called}
 
--- how much there is to put
-abbrev mutual
-  pub node_weight : NodeKind → ℕ
-  node_weight (control_node c h body other) = suc (nodes_weight body + nodes_weight other)
-  node_weight _ = 0
-
-  pub nodes_weight : Nodes → ℕ
-  nodes_weight tree.none = 0
-  nodes_weight (tree.then line n ns) = suc (node_weight n + nodes_weight ns)
-
-pub item-weight : (ns : List held.Node) (i : ℕ) (n : held.Node) → i < length ns → n ≡ get_or ns i n → node_weight (node_of n).what < nodes_weight (nodes_in ns)
-item-weight [] i n h is = absurd (omega arith)
-item-weight (m ∷ ns) zero n h is = rw is (omega arith)
-item-weight (m ∷ ns) (suc i) n h is = omega (arith, item-weight ns i n (omega arith) is)
-
-pub ruleset lighter = (item-weight)
-
 pub bound_off-on : (b : Binding) (lay : Layout) → bound_off b (bound_on b lay) ≡ lay
 bound_off-on unbound lay = refl
 bound_off-on _ lay = refl

@@ -1,16 +1,11 @@
--- For `put_operand`, `cost_of_operand` and what they call: the weight of operands one level at a time, by which their
--- recursion ends, and how many there are.
-use Rattle.std.proofs.Common.{arith, ◌≡◌, ◌+◌, ◌<◌, ◌≤◌, ℕ, zero, suc, Bool, true, false, not, List, [], ◌∷◌, length, get_or, refl, ap}
+-- For `put_operand`, `cost_of_operand` and what they call: how many operands there are.
+use Rattle.std.proofs.Common.{arith, ◌≡◌, ◌≤◌, ℕ, Bool, true, false, not, List, [], ◌∷◌, length, refl}
 use Rattle.tmpl_grammar.specs.Need.{need_of_arguments}
-use Rattle.tmpl_grammar.specs.Tree.{Operand, group, Operands, no_operand, operand, Pipeline, no_command, command}
-use Rattle.tmpl_grammar.specs.View.{operand_of, operands_in, commands_in}
+use Rattle.tmpl_grammar.specs.Tree.{Operand, no_operand}
+use Rattle.tmpl_grammar.specs.View.{operands_in}
 use Rattle.tmpl_grammar.specs.declared.tree.Operand as held
-use Rattle.tmpl_grammar.specs.declared.tree.Command as held_command
-use Rattle.tmpl_code.specs.Code.{is_last, operand_count}
-
-pub operand_count-of : (os : List held.Operand) → operand_count (operands_in os) ≡ length os
-operand_count-of [] = refl
-operand_count-of (o ∷ os) = ap suc (operand_count-of os)
+use Rattle.tmpl_grammar.proofs.WeightLemmas.{operand_count-of}
+use Rattle.tmpl_code.specs.Code.{is_last}
 
 pub last-of : (piped : Bool) → is_last no_operand piped ≡ not piped
 last-of false = refl
@@ -21,34 +16,6 @@ more-last [] piped h = absurd (omega arith)
 more-last (o ∷ os) piped h = refl
 
 pub ruleset counts = (operand_count-of, last-of, more-last)
-
--- how much there is to put
-abbrev mutual
-  pub weight : Operand → ℕ
-  weight (group commands names) = suc (all_weight commands)
-  weight _ = 0
-
-  pub weights : Operands → ℕ
-  weights no_operand = 0
-  weights (operand o os) = suc (weight o + weights os)
-
-  pub all_weight : Pipeline → ℕ
-  all_weight no_command = 0
-  all_weight (command os cs) = suc (weights os + all_weight cs)
-
-pub item-weight : (os : List held.Operand) (i : ℕ) (o : held.Operand) → i < length os → o ≡ get_or os i o → weight (operand_of o) < weights (operands_in os)
-item-weight [] i o h is = absurd (omega arith)
-item-weight (p ∷ os) zero o h is = rw is (omega arith)
-item-weight (p ∷ os) (suc i) o h is = omega (arith, item-weight os i o (omega arith) is)
-
--- the operands of a command, as a slice has them
-pub slice-weights : (cs : List held_command.Command) (i : ℕ) (c : held_command.Command) (os : List held.Operand) → i < length cs
-    → os ≡ (get_or cs i c).operands.items → weights (operands_in os) < all_weight (commands_in cs)
-slice-weights [] i c os h is = absurd (omega arith)
-slice-weights (d ∷ cs) zero c os h is = rw is (omega arith)
-slice-weights (d ∷ cs) (suc i) c os h is = omega (arith, slice-weights cs i c os (omega arith) is)
-
-pub ruleset lighter = (item-weight, slice-weights)
 
 -- where no argument is left, what is held is the need
 pub no_argument : (n : ℕ) → need_of_arguments n no_operand ≡ n

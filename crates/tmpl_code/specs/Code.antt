@@ -8,7 +8,7 @@ use Rattle.tmpl_funcs.specs.Func.{takes}
 use Rattle.tmpl_funcs.specs.declared.func.Func.{Func}
 use Rattle.tmpl_funcs.specs.declared.func.Func.TheVariants.{And, Or}
 use Rattle.tmpl_grammar.specs.Tree.{Operand, dot, fields, variable, bool_constant, number_constant}
-use Rattle.tmpl_grammar.specs.Tree.{text_constant, nil, function, group, Operands, no_operand, operand}
+use Rattle.tmpl_grammar.specs.Tree.{text_constant, nil, function, group, Operands, no_operand, operand, operand_count}
 use Rattle.tmpl_grammar.specs.Tree.{Pipeline, no_command, command}
 use Rattle.tmpl_grammar.specs.Tree.{Binding, unbound, declare, assign, declare_pair, Header}
 use Rattle.tmpl_grammar.specs.Need.{declared_count}
@@ -60,10 +60,6 @@ BareAt false f code rest = One (refuse (wrong_count f)) code rest
 abbrev pub piped_count : Bool → ℕ
 piped_count false = 0
 piped_count true = 1
-
-abbrev pub operand_count : Operands → ℕ
-operand_count no_operand = 0
-operand_count (operand o os) = suc (operand_count os)
 
 abbrev pub argument_count : Operands → Bool → ℕ
 argument_count os piped = operand_count os + piped_count piped

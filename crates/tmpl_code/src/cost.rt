@@ -34,7 +34,7 @@ fn cost_of_commands(commands: &[Command]) -> Result<Survey, AllocError>
 
 /// What commands cost to each of which a value is piped.
 #[cycle(pipes)]
-#[tactic(auto, using(crate::proofs::OperandLemmas::lighter, crate::proofs::BackwardLemmas::from_none))]
+#[tactic(auto, using(tmpl_grammar::proofs::WeightLemmas::lighter, crate::proofs::BackwardLemmas::from_none))]
 fn cost_of_piped(commands: &[Command]) -> Result<Survey, AllocError>
     ensures { IfOk result (Surveys (needs.need_of_commands 1 (commands_in commands.now))
         (texts.commands_make_text (commands_in commands.now)) false) }
@@ -74,7 +74,7 @@ fn cost_of_command(piped: usize, operands: &[Operand]) -> Result<Survey, AllocEr
 
 /// What the arguments of a call cost, above this many values.
 #[cycle(pipes)]
-#[tactic(auto, using(crate::proofs::OperandLemmas::no_argument, crate::proofs::OperandLemmas::lighter, crate::proofs::BackwardLemmas::from_none))]
+#[tactic(auto, using(crate::proofs::OperandLemmas::no_argument, tmpl_grammar::proofs::WeightLemmas::lighter, crate::proofs::BackwardLemmas::from_none))]
 fn cost_of_arguments(held: usize, operands: &[Operand]) -> Result<Survey, AllocError>
     ensures { IfOk result (Surveys (needs.need_of_arguments held (operands_in operands.now))
         (texts.operands_make_text (operands_in operands.now)) false) }

@@ -41,7 +41,7 @@ impl Heaviest {
 /// The heaviest of the templates that are called and are there. Both are looked up at once, since each look hashes a
 /// name.
 #[cycle(heaviest)]
-#[tactic(auto, using(crate::proofs::NodeLemmas::lighter, crate::proofs::BackwardLemmas::from_none))]
+#[tactic(auto, using(tmpl_syntax::proofs::WeightLemmas::lighter, crate::proofs::BackwardLemmas::from_none))]
 pub(crate) fn heaviest_of_nodes(set: &Set, claims: &Claims, nodes: &[Node]) -> Heaviest
     ensures weight { result.weight
         ≡ spec.heaviest_of_nodes (set_view set.now) claims.now.weights.items (nodes_in nodes.now) }

@@ -3,6 +3,7 @@
 
 ghost use Rattle.std.specs.Prelude.{◌≡◌, ◌+◌, ◌^◌, ◌≤◌, ◌<◌, IfOk, IsOk, OnOk, false, length, true};
 ghost use Rattle.tmpl_funcs.specs.Func.{takes};
+ghost use Rattle.tmpl_grammar.specs.Tree as tree;
 ghost use Rattle.tmpl_grammar.specs.View.{commands_in, operand_of, operands_in, pipeline_of};
 ghost use Rattle.tmpl_code.specs.Code as spec;
 ghost use Rattle.tmpl_code.specs.computed.Held.{CalledAt, Ends, Placed, code_of, after_decision, layout_of};
@@ -70,7 +71,7 @@ fn put_commands(
 
 /// Puts commands to each of which a value is piped.
 #[cycle(pipeline)]
-#[tactic(auto, using(crate::proofs::OperandLemmas::lighter, crate::proofs::TailLemmas::ends))]
+#[tactic(auto, using(tmpl_grammar::proofs::WeightLemmas::lighter, crate::proofs::TailLemmas::ends))]
 fn put_piped(
     code: &mut Code,
     scope: &Scope<'_>,
@@ -153,7 +154,7 @@ fn argument_count(operands: &[Operand], piped: bool) -> u64
 
 #[tactic(auto, using(crate::proofs::OperandLemmas::counts))]
 fn operand_count(operands: &[Operand]) -> usize
-    ensures { result ≡ spec.operand_count (operands_in operands.now) }
+    ensures { result ≡ tree.operand_count (operands_in operands.now) }
 {
     operands.len()
 }
@@ -188,7 +189,7 @@ fn put_call(
 
 /// Puts the operands of a call.
 #[cycle(pipeline)]
-#[tactic(auto, using(crate::proofs::OperandLemmas::lighter, crate::proofs::TailLemmas::ends))]
+#[tactic(auto, using(tmpl_grammar::proofs::WeightLemmas::lighter, crate::proofs::TailLemmas::ends))]
 fn put_operands(
     code: &mut Code,
     scope: &Scope<'_>,
@@ -208,7 +209,7 @@ fn put_operands(
 
 /// Puts the operands of an `or`, or else of an `and`.
 #[cycle(pipeline)]
-#[tactic(auto, using(crate::proofs::OperandLemmas::lighter, crate::proofs::TailLemmas::ends, crate::proofs::TailLemmas::longer))]
+#[tactic(auto, using(tmpl_grammar::proofs::WeightLemmas::lighter, crate::proofs::TailLemmas::ends, crate::proofs::TailLemmas::longer))]
 fn put_junction(
     code: &mut Code,
     scope: &Scope<'_>,

@@ -60,7 +60,7 @@ impl Survey {
 
 /// The survey of nodes, each above the variables that those before it leave.
 #[cycle(nodes)]
-#[tactic(auto, using(crate::proofs::NodeLemmas::lighter, crate::proofs::BackwardLemmas::from_none))]
+#[tactic(auto, using(tmpl_syntax::proofs::WeightLemmas::lighter, crate::proofs::BackwardLemmas::from_none))]
 fn survey_nodes(nodes: &[Node]) -> Result<Survey, AllocError>
     ensures { IfOk result (SurveysNodes (nodes_in nodes.now)) }
 {

@@ -9,7 +9,7 @@ use Rattle.tmpl_values.specs.Value.{Value, nothing}
 use Rattle.tmpl_funcs.specs.Func.{is_called, makes_text, takes}
 use Rattle.tmpl_funcs.specs.declared.func.Func.{Func}
 use Rattle.tmpl_funcs.specs.declared.func.Func.TheVariants.{And, Or}
-use Rattle.tmpl_grammar.specs.Tree.{Operand, fields, variable, nil, function, group, Operands, no_operand, operand, Pipeline, no_command, command}
+use Rattle.tmpl_grammar.specs.Tree.{Operand, fields, variable, nil, function, group, Operands, no_operand, operand, Pipeline, no_command, command, operand_count}
 use Rattle.tmpl_grammar.specs.Need.{need_of_arguments, need_of_command, need_of_commands, need_of_operand, need_of_pipeline}
 use Rattle.tmpl_meaning.specs.Fault.{Cause}
 use Rattle.tmpl_meaning.specs.Pipeline as meaning
@@ -19,7 +19,7 @@ use Rattle.tmpl_meaning.proofs.PartLemmas.{by_count, decided}
 use Rattle.tmpl_code.specs.Instruction.{Operation, CommandError, act, call_with, decide, refuse, settle}
 use Rattle.tmpl_code.specs.Layout.{Layout, slot_named}
 use Rattle.tmpl_code.specs.Code.{BareAt, CallBy, Code, CommandAt, CommandsAt, CountedAt, DecideAt, JunctionAt, OperandAt, OperandsAt, Stretch, PipelineAt}
-use Rattle.tmpl_code.specs.Code.{VariableAt, chain_before, is_last, operand_count, piped_count}
+use Rattle.tmpl_code.specs.Code.{VariableAt, chain_before, is_last, piped_count}
 use Rattle.tmpl_engine.specs.Cell.{Cell, fresh, values_in}
 use Rattle.tmpl_engine.specs.State.{State}
 use Rattle.tmpl_engine.specs.Step.{Went, called_on, cause_of, decided_by, halted, lacks, made_by, on, push_value, step}
@@ -92,13 +92,9 @@ dropped ws cs n e = rw (stacked-is, e, as-long, drop-append_seam) refl
 
 -- ---- arguments
 
-count-same : (os : Operands) → operand_count os ≡ meaning.operand_count os
-count-same no_operand = refl
-count-same (operand o os) = ap suc (count-same os)
-
 arguments-same : (os : Operands) (turn_of_operation : Option Value)
-    → meaning.operand_count os + length (option_to_list turn_of_operation) ≡ operand_count os + piped_count (is_some turn_of_operation)
-arguments-same os turn_of_operation = grind (arith, count-same)
+    → operand_count os + length (option_to_list turn_of_operation) ≡ operand_count os + piped_count (is_some turn_of_operation)
+arguments-same os turn_of_operation = grind arith
 
 -- ---- what follows what is given
 

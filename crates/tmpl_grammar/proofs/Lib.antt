@@ -33,3 +33,4 @@ pub mod SpelledLemmas
 pub mod StrayLemmas
 pub mod TokenLemmas
 pub mod ViewLemmas
+pub mod WeightLemmas

@@ -1,5 +1,5 @@
 -- What the parts of an action say, apart from how it is held.
-use Rattle.std.specs.Prelude.{ℕ, ℤ, Bool, List, [], ◌∷◌}
+use Rattle.std.specs.Prelude.{ℕ, suc, ℤ, Bool, List, [], ◌∷◌}
 use Rattle.tmpl_funcs.specs.declared.func.Func.{Func}
 
 mutual
@@ -43,3 +43,8 @@ operands_from (o ∷ os) = operand o (operands_from os)
 abbrev pub commands_from : List Operands → Pipeline
 commands_from [] = no_command
 commands_from (c ∷ cs) = command c (commands_from cs)
+
+-- how many there are
+abbrev pub operand_count : Operands → ℕ
+operand_count no_operand = 0
+operand_count (operand o os) = suc (operand_count os)

@@ -8,7 +8,7 @@ use Rattle.std.proofs.lemmas.List.{drop_more}
 use Rattle.std.proofs.lemmas.List.Elements.{All-head, All-tail}
 use Rattle.serde_json.specs.Data as json
 use Rattle.serde_json.specs.Data.{Data, Items, Members, no_members, member}
-use Rattle.serde_json.specs.Find.{get, pointer}
+use Rattle.serde_json.specs.Find.{get}
 use Rattle.serde_json.specs.Read.{read}
 use Rattle.serde_json.specs.View.{items_view, view}
 use Rattle.serde_json.specs.declared.value.Value as tree
@@ -23,7 +23,7 @@ use Rattle.tmpl_shape.proofs.MeetLemmas.{or-one, or-other}
 use Rattle.tmpl_shape.proofs.NameLemmas.{meant, shape-on}
 use Rattle.tmpl_shape.proofs.ShapeLemmas.{same_name, or_cases, items-has}
 use Rattle.tmpl_json_schema.specs.Document.{IsInstance, IsOfType, IsConstant, IsOneOf, HasKeys, SomeItem, EachItemOf, SomeMember, in_properties, is_property, FitsProperty, FitsProperties, FitsAdditional}
-use Rattle.tmpl_json_schema.specs.Document.{HasItems, FitsItems, FitsEach, FitsPattern, fragment_of, refer, ConformsBy, conforms_in, document_of, draft_of, draft_in, has_const, is_alone}
+use Rattle.tmpl_json_schema.specs.Document.{HasItems, FitsItems, FitsEach, FitsPattern, fragment_of, refer, referent, ConformsBy, conforms_in, document_of, draft_of, draft_in, has_const, is_alone}
 use Rattle.tmpl_json_schema.specs.Document.{base_of, draft_alone, has_inner_base, is_since_2019, items_in}
 use Rattle.tmpl_json_schema.specs.declared.draft.Draft.{Draft}
 use Rattle.tmpl_json_schema.specs.declared.draft.Draft.TheVariants.{Draft2020}
@@ -149,14 +149,14 @@ read-object c d ms s e h = subst (λ (x : Data). IsReadOf c x s) (sym e) (object
 
 -- a value of which there is a `$ref` is one of what that points to
 refers-to : (names : List (List ℕ)) (root : Data) (P : Data → Type 0) (r : Data) (q : List ℕ) → listed_in names r ≡ Some q → IfSome (refer root r) P
-    → (is_listed names q ≡ true) × IfSome (pointer q root) P
+    → (is_listed names q ≡ true) × IfSome (referent q root) P
 refers-to names root P (json.string t) q e h = by (fragment_of t) e h
   where
-    at : (p : List ℕ) → IfSome (pointer p root) P → (b : Bool) → is_listed names p ≡ b → (if b then Some p else None) ≡ Some q → (is_listed names q ≡ true) × IfSome (pointer q root) P
-    at p k true is f = is-some (λ x. (is_listed names x ≡ true) × IfSome (pointer x root) P) p q f (is, k)
+    at : (p : List ℕ) → IfSome (referent p root) P → (b : Bool) → is_listed names p ≡ b → (if b then Some p else None) ≡ Some q → (is_listed names q ≡ true) × IfSome (referent q root) P
+    at p k true is f = is-some (λ x. (is_listed names x ≡ true) × IfSome (referent x root) P) p q f (is, k)
     at p k false is f = absurd (not-some q f)
 
-    by : (o : Option (List ℕ)) → option_and_then (if_listed names) o ≡ Some q → IfSome (option_and_then (λ p. pointer p root) o) P → (is_listed names q ≡ true) × IfSome (pointer q root) P
+    by : (o : Option (List ℕ)) → option_and_then (if_listed names) o ≡ Some q → IfSome (option_and_then (λ p. referent p root) o) P → (is_listed names q ≡ true) × IfSome (referent q root) P
     by None f k = absurd (not-some q f)
     by (Some p) f k = at p k (is_listed names p) refl f
 refers-to names root P r q e h = absurd (not-some q e)
@@ -168,11 +168,11 @@ referred c d p s e h = λ sound n v x. h sound n v (by (Conforms c n) (get (code
     by C None v e x = absurd (not-some p e)
     by C (Some r) v e x = refers-to c.names (base_of c.root) (λ t. C t v) r p e x
 
-pub looked-up : (c : Context) (p : List ℕ) (d : Data) (s : Shape) → pointer p c.root ≡ Some d → IsReadOf c d s → Has c (At c p) s
+pub looked-up : (c : Context) (p : List ℕ) (d : Data) (s : Shape) → referent p c.root ≡ Some d → IsReadOf c d s → Has c (At c p) s
 looked-up c p d s e h = λ sound n v x. inside c d s h sound n v (at (Conforms c n) v sound.1 x)
   where
     at : (C : Data → Value → Type 0) (v : Value) → AreLookedUp c.root c.names → At c p C v → C d v
-    at C v (inl same) x = let is : pointer p (base_of c.root) ≡ Some d = ap (λ r. pointer p r) same ∙ e in subst (λ (o : Option Data). IfSome o (λ t. C t v)) is x.1
+    at C v (inl same) x = let is : referent p (base_of c.root) ≡ Some d = ap (λ r. referent p r) same ∙ e in subst (λ (o : Option Data). IfSome o (λ t. C t v)) is x.1
     at C v (inr none) x = absurd (false≢true (ap (λ ns. is_listed ns p) (sym none) ∙ x.0))
 
 -- ---- what stands in an object
@@ -326,16 +326,16 @@ listed-defined defs (x ∷ xs) p e is =
     ]
 
 find-definition : (c : Context) (ds : List Definition) → All (IsDefinition c) ds → (p : List ℕ) → IsSome (defs_in ds p)
-    → (d : Data) × (s : Shape) × (pointer p c.root ≡ Some d) × (defs_in ds p ≡ Some s) × IsReadOf c d s
+    → (d : Data) × (s : Shape) × (referent p c.root ≡ Some d) × (defs_in ds p ≡ Some s) × IsReadOf c d s
 find-definition c [] all p is = absurd (false≢true is)
 find-definition c (x ∷ ds) all p is = by (bytes_eq p x.name) refl is (find-definition c ds (All-tail (IsDefinition c) x ds all) p)
   where
     by : (b : Bool) → bytes_eq p x.name ≡ b → IsSome (if b then Some (shape_of x.shape) else defs_in ds p)
-        → (IsSome (defs_in ds p) → (d : Data) × (s : Shape) × (pointer p c.root ≡ Some d) × (defs_in ds p ≡ Some s) × IsReadOf c d s)
-        → (d : Data) × (s : Shape) × (pointer p c.root ≡ Some d) × ((if b then Some (shape_of x.shape) else defs_in ds p) ≡ Some s) × IsReadOf c d s
+        → (IsSome (defs_in ds p) → (d : Data) × (s : Shape) × (referent p c.root ≡ Some d) × (defs_in ds p ≡ Some s) × IsReadOf c d s)
+        → (d : Data) × (s : Shape) × (referent p c.root ≡ Some d) × ((if b then Some (shape_of x.shape) else defs_in ds p) ≡ Some s) × IsReadOf c d s
     by true e i more =
         let at = All-head (IsDefinition c) x ds all in
-        (at.0, shape_of x.shape, subst (λ (q : List ℕ). pointer q c.root ≡ Some at.0) (sym (same_name p x.name e)) at.1, refl, at.2)
+        (at.0, shape_of x.shape, subst (λ (q : List ℕ). referent q c.root ≡ Some at.0) (sym (same_name p x.name e)) at.1, refl, at.2)
     by false e i more = more i
 
 module _ (c : Context) (sound : IsSound c) (ds : List Definition) (all : All (IsDefinition c) ds) (defined : are_defined (defs_in ds) c.names ≡ true) where
@@ -350,9 +350,9 @@ module _ (c : Context) (sound : IsSound c) (ds : List Definition) (all : All (Is
       (meant (defs_in ds)).folds p at.1 v at.3
       (shape-on (NamesIn c n) N (stands n) at.1 v (fewer at.0 at.1 at.2 at.4 sound.1))
     where
-      fewer : (d : Data) (s : Shape) → pointer p c.root ≡ Some d → IsReadOf c d s → AreLookedUp c.root c.names → HasShape (NamesIn c n) s v
+      fewer : (d : Data) (s : Shape) → referent p c.root ≡ Some d → IsReadOf c d s → AreLookedUp c.root c.names → HasShape (NamesIn c n) s v
       fewer d s at r (inl same) =
-          let is : pointer p (base_of c.root) ≡ Some d = ap (λ x. pointer p x) same ∙ at in
+          let is : referent p (base_of c.root) ≡ Some d = ap (λ x. referent p x) same ∙ at in
           more s (r sound h.0 v (subst (λ (o : Option Data). IfSome o (λ x. Conforms c h.0 x v)) is h.3))
         where
           more : (s : Shape) → HasShape (NamesIn c h.0) s v → HasShape (NamesIn c n) s v

@@ -7,3 +7,4 @@ pub mod MeetLemmas
 pub mod KnownLemmas
 pub mod BaseLemmas
 pub mod ProvenanceLemmas
+pub mod ReferenceLemmas

@@ -79,7 +79,7 @@ all-taken P xs i past h = subst (AllByRecursion P) (take_all i xs past) h
 -- ---- members
 
 -- what an iterator has given is a front of the entries
-front : (es : List (String Global × tree.Value)) (xs : List (Bor (String Global) × Bor tree.Value)) (rest : List (String Global × tree.Value))
+pub front : (es : List (String Global × tree.Value)) (xs : List (Bor (String Global) × Bor tree.Value)) (rest : List (String Global × tree.Value))
     → Yields (TakesFirst deref_pair) es xs rest → es ≡ map deref_pair xs ++ rest
 front es [] rest y = y
 front es (x ∷ xs) rest y = y.1 ∙ ap (λ l. deref_pair x ∷ l) (front y.0 xs rest y.2)

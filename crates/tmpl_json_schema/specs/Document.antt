@@ -2,13 +2,13 @@
 -- of the draft 2020-12; where an earlier draft differs in a keyword that is used here, that is said. What only narrows further
 -- is left out, as `minLength`, `not`, `if` and `dependentSchemas`: more values conform than by the specification.
 use Rattle.std.specs.Prelude.{◌≡◌, ◌⊎◌, ◌≤◌, ℕ, zero, suc, true, false, not, is_some, List, length, [], ◌∷◌, ◌||◌, ◌&&◌, ◌==◌, Bool, Option, Some, None, IsSome, IfSome, codes}
-use Rattle.std.specs.Option.{option_and_then, option_map_or}
+use Rattle.std.specs.Option.{option_and_then, option_map_or, option_or, unwrap_or}
 use Rattle.std.specs.Prelude.{if◌then◌else◌}
 use Rattle.std.specs.Str.{bytes_eq, is_utf8}
 use Rattle.percent_encoding.specs.Percent.{percent_decode}
 use Rattle.serde_json.specs.Data as json
 use Rattle.serde_json.specs.Data.{Data, unsigned, Items, no_items, Members, no_members, member}
-use Rattle.serde_json.specs.Find.{as_i64, get, pointer}
+use Rattle.serde_json.specs.Find.{as_i64, as_object, get, pointer}
 use Rattle.serde_json.specs.Read.{read}
 use Rattle.tmpl_values.specs.Value.{Value, Entries, nothing, null, boolean, number, string, sequence, mapping}
 use Rattle.tmpl_values.specs.Elements.{values_of_items}
@@ -45,6 +45,11 @@ abbrev pub is_since_2019 : Draft → Bool
 is_since_2019 Draft2019 = true
 is_since_2019 Draft2020 = true
 is_since_2019 draft = false
+
+-- the keyword of an identifier (C 8.2.1): before draft-06 it is `id`
+abbrev pub identifier_of : Draft → List ℕ
+identifier_of Draft04 = codes "id"
+identifier_of draft = codes "$id"
 
 -- whether a draft has `const`: draft-04 has not
 abbrev pub has_const : Draft → Bool
@@ -186,13 +191,40 @@ module _ (Conforms : Data → Value → Type 0) where
   FitsEach v (json.array ds) = EachItemOf (λ d. Conforms d v) ds
   FitsEach v d = Unit {0}
 
--- what a `$ref` within the document points to (C 8.2.3.1, 9.2.1): after `#` and without the escapes of a URI a JSON Pointer
+-- what a `$ref` within the document points to (C 8.2.3.1, 9.2.1): after `#` and without the escapes of a URI a JSON Pointer or a name
 abbrev pub fragment_of : List ℕ → Option (List ℕ)
 fragment_of [] = None
 fragment_of (b ∷ rest) = if b == 35 then Some (percent_decode rest) else None
 
+-- a keyword of a schema has this text
+abbrev pub is_text : List ℕ → Data → Bool
+is_text text (json.string t) = bytes_eq t text
+is_text text d = false
+
+abbrev pub has_text : List ℕ → List ℕ → Data → Bool
+has_text keyword text schema = option_map_or (is_text text) (get keyword schema) false
+
+-- a schema has this name (C 8.2.2): since 2019-09 by `$anchor` or `$dynamicAnchor`, before by an identifier that is `#` and the name
+abbrev pub is_named : Draft → List ℕ → Data → Bool
+is_named draft name schema =
+    if is_since_2019 draft then has_text (codes "$anchor") name schema || has_text (codes "$dynamicAnchor") name schema
+    else has_text (identifier_of draft) (35 ∷ name) schema
+
+-- the first of these definitions that has it
+abbrev pub first_named : Draft → List ℕ → Members → Option Data
+first_named draft name no_members = None
+first_named draft name (member k d ms) = if is_named draft name d then Some d else first_named draft name ms
+
+abbrev pub named_under : List ℕ → List ℕ → Data → Option Data
+named_under keyword name root =
+    option_and_then (first_named (unwrap_or (draft_of root) Draft2020) name) (option_and_then as_object (get keyword root))
+
+-- what stands at a JSON Pointer, or else the definition at the top that has this name
+abbrev pub referent : List ℕ → Data → Option Data
+referent fragment root = option_or (pointer fragment root) (option_or (named_under (codes "$defs") fragment root) (named_under (codes "definitions") fragment root))
+
 abbrev pub refer : Data → Data → Option Data
-refer root (json.string r) = option_and_then (λ p. pointer p root) (fragment_of r)
+refer root (json.string r) = option_and_then (λ p. referent p root) (fragment_of r)
 refer root d = None
 
 -- there is a `$ref` beside which nothing else is looked at: no draft before 2019-09 does
@@ -224,11 +256,6 @@ ConformsBy root Conforms d v = Unit {0}
 abbrev pub conforms_in : Data → ℕ → Data → Value → Type 0
 conforms_in root zero d v = ⊥
 conforms_in root (suc n) d v = ConformsBy root (conforms_in root n) d v
-
--- the keyword of an identifier (C 8.2.1): before draft-06 it is `id`
-abbrev pub identifier_of : Draft → List ℕ
-identifier_of Draft04 = codes "id"
-identifier_of draft = codes "$id"
 
 -- an identifier from which a `$ref` is looked up: one that begins with `#` is a name within the document
 abbrev pub is_base : Data → Bool

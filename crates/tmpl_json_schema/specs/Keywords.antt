@@ -4,8 +4,8 @@ use Rattle.std.specs.List.{AllByRecursion, list_any}
 use Rattle.std.specs.Str.{bytes_eq}
 use Rattle.serde_json.specs.Data as json
 use Rattle.serde_json.specs.Data.{Data, Items, no_items, Members, no_members, member}
-use Rattle.serde_json.specs.Find.{pointer}
 use Rattle.tmpl_shape.specs.declared.shape.Definition.{Definition}
+use Rattle.tmpl_json_schema.specs.Document.{referent}
 
 -- those that are read, those that only narrow further, and notes
 abbrev pub keywords : List (List ℕ)
@@ -106,6 +106,6 @@ abbrev mutual
   EachListed no_items = Unit {0}
   EachListed (json.item d ds) = IsKnown d × EachListed ds
 
--- so are those of what is at the pointer of each definition
+-- so are those of what each definition is of
 abbrev pub AreKnownAt : Data → List Definition → Type 0
-AreKnownAt root definitions = AllByRecursion (λ d. IfSome (pointer d.name root) IsKnown) definitions
+AreKnownAt root definitions = AllByRecursion (λ d. IfSome (referent d.name root) IsKnown) definitions

@@ -11,18 +11,6 @@ use serde_json::{Map, Value};
 /// How deep a document is looked through: more than JSON may nest.
 const LEVELS: usize = 200;
 
-impl Draft {
-    /// The keyword of an identifier.
-    fn identifier(self) -> &'static str
-        ensures { result.now ≡ identifier_of self }
-    {
-        match self {
-            Draft::Draft04 => "id",
-            Draft::Draft06 | Draft::Draft07 | Draft::Draft2019 | Draft::Draft2020 => "$id",
-        }
-    }
-}
-
 /// Whether nothing below the top of a document of this draft has an identifier from which a `$ref` is looked up.
 pub(crate) fn is_one_base(draft: Draft, root: &Value) -> bool
     ensures { result ≡ true → inside_has_base (identifier_of draft) (view root.now) ≡ false }

@@ -7,7 +7,7 @@ ghost use Rattle.serde_json.specs.View.{view, items_view, members_view};
 ghost use Rattle.tmpl_values.specs.Value.{mapping, sequence};
 ghost use Rattle.tmpl_values.specs.Json.{tree_value, tree_items, tree_entries};
 ghost use Rattle.tmpl_json_schema.specs.declared.conform.Conformity.TheVariants as conformity;
-ghost use Rattle.tmpl_json_schema.specs.Document.{EachItemOf, FitsAdditional, FitsEach, FitsItems, FitsProperties, FitsSome, HasItems, HasKey, HasKeys};
+ghost use Rattle.tmpl_json_schema.specs.Document.{FitsAdditional, FitsEach, FitsItems, FitsProperties, FitsSome, HasItems, HasKey, HasKeys};
 ghost use Rattle.tmpl_json_schema.specs.Document.{HasType, IsConstant, IsOfSchema, IsOfType, IsOneOf, conforms_in, fragment_of};
 ghost use Rattle.tmpl_json_schema.specs.Document.{in_properties, of_each, refer};
 ghost use Rattle.tmpl_json_schema.specs.computed.Conformed.{AreApart, IsAtLeast, Meets, MeetsEach, MeetsOfKind};
@@ -15,9 +15,9 @@ ghost use Rattle.tmpl_json_schema.specs.computed.Conformed.{AreApart, IsAtLeast,
 use crate::base::is_one_base;
 use crate::draft::{Draft, draft_of, draft_seen};
 use crate::pattern::{is_of_pattern, is_pattern_met};
+use crate::reference::follow_fragment;
 use serde_json::{Map, Number, Value};
 use std::alloc::Global;
-use std::str::from_utf8;
 
 /// The largest integer that has an exact neighbor among floats.
 const EXACT: i64 = 9_007_199_254_740_992;
@@ -138,23 +138,20 @@ pub(crate) fn follow_reference<'d>(root: &'d Value, reference: &Value) -> Option
     ensures { IfSome result (λ schema. refer (view root.now) (view reference.now) ≡ Some (view schema.now)) }
 {
     match reference {
-        Value::String(reference) => root.pointer(fragment_in(reference.as_str())?),
+        Value::String(reference) => follow_fragment(root, fragment_in(reference.as_str())?),
         _ => None,
     }
 }
 
-/// The JSON Pointer of a reference within the document; none where it has escapes of a URI.
-fn fragment_in(reference: &str) -> Option<&str>
-    ensures { IfSome result (λ pointer. fragment_of reference.now ≡ Some pointer.now) }
+/// What stands after the `#` of a reference within the document; none where it has escapes of a URI.
+fn fragment_in(reference: &str) -> Option<&[u8]>
+    ensures { IfSome result (λ fragment. fragment_of reference.now ≡ Some fragment.now) }
 {
-    let pointer = after_mark(reference)?;
-    if pointer.contains(&b'%') {
+    let fragment = after_mark(reference)?;
+    if fragment.contains(&b'%') {
         return None;
     }
-    match from_utf8(pointer) {
-        Ok(pointer) => Some(pointer),
-        Err(_) => None,
-    }
+    Some(fragment)
 }
 
 /// What stands after the `#` with which a reference begins, if it does.

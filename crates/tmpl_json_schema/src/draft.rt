@@ -1,7 +1,9 @@
 //! The drafts of JSON Schema that are read.
 ghost use Rattle.std.specs.Prelude.{◌≡◌, IfOk, Some};
+ghost use Rattle.std.specs.Option.{unwrap_or};
 ghost use Rattle.serde_json.specs.View.{view};
-ghost use Rattle.tmpl_json_schema.specs.Document.{draft_in, draft_named, draft_of, has_const, is_since_2019};
+ghost use Rattle.tmpl_json_schema.specs.declared.draft.Draft.TheVariants as draft;
+ghost use Rattle.tmpl_json_schema.specs.Document.{draft_in, draft_named, draft_of, has_const, identifier_of, is_since_2019};
 
 use crate::fault::{SchemaFault, refusal, refusal_of, under};
 use serde_json::Value;
@@ -23,6 +25,16 @@ impl Draft {
         ensures { result ≡ is_since_2019 self }
     {
         matches!(self, Draft::Draft2019 | Draft::Draft2020)
+    }
+
+    /// The keyword of an identifier.
+    pub(crate) fn identifier(self) -> &'static str
+        ensures { result.now ≡ identifier_of self }
+    {
+        match self {
+            Draft::Draft04 => "id",
+            Draft::Draft06 | Draft::Draft07 | Draft::Draft2019 | Draft::Draft2020 => "$id",
+        }
     }
 
     /// Whether it has `const`.
@@ -90,7 +102,9 @@ fn draft_in(alloc: Global, named: &Value) -> Result<Draft, SchemaFault>
 }
 
 /// The draft of a document that is read.
-pub(crate) fn draft_seen(root: &Value) -> Draft {
+pub(crate) fn draft_seen(root: &Value) -> Draft
+    ensures { result ≡ unwrap_or (draft_of (view root.now)) draft.Draft2020 }
+{
     match root.get("$schema") {
         Some(Value::String(uri)) => draft_named(uri.as_str()).unwrap_or(Draft::Draft2020),
         _ => Draft::Draft2020,

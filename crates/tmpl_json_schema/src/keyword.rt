@@ -2,7 +2,7 @@
 use crate::Result;
 use crate::fault::{Refused, SchemaFault, at_index, refusal, refusal_by, refusal_of, under};
 use crate::known::{is_keyword, near_keyword};
-use crate::reference::{follow_pointer, fragment_of, parts_of, under_pointer};
+use crate::reference::{follow_fragment, fragment_of, parts_of, under_fragment};
 use serde_json::Value;
 use std::alloc::Global;
 use tmpl_values::Bytes;
@@ -131,17 +131,15 @@ impl Search<'_> {
         Ok(())
     }
 
-    /// Looks at a `$ref`: what is at its pointer, or warns that it is not looked up.
+    /// Looks at a `$ref`: what it points to, or warns that it is not looked up.
     fn look_at_reference(&mut self, reference: &str) -> Result<(), SchemaFault> {
-        let Some(pointer) = fragment_of(self.alloc, reference)? else {
-            return self.warn_of("", reference, " is not looked up: any value may be there");
-        };
-        if !self.is_one_base || !is_pointer(pointer.as_slice()) {
-            return self.warn_of("", reference, " is not looked up: any value may be there");
-        }
-        match follow_pointer(self.root, pointer.as_slice()) {
-            Some(_) => Ok(()),
-            None => Err(refusal_of(self.alloc, "nothing is at ", reference, " in the document")),
+        let fragment = fragment_of(self.alloc, reference)?;
+        match fragment.as_ref().filter(|_| self.is_one_base) {
+            Some(fragment) if follow_fragment(self.root, fragment.as_slice()).is_some() => Ok(()),
+            Some(fragment) if is_pointer(fragment.as_slice()) => {
+                Err(refusal_of(self.alloc, "nothing is at ", reference, " in the document"))
+            }
+            _ => self.warn_of("", reference, " is not looked up: any value may be there"),
         }
     }
 
@@ -243,24 +241,24 @@ fn search_part(search: &mut Search<'_>, part: Part, value: &Value) -> Result<(),
     Ok(())
 }
 
-/// Looks through what a pointer points to.
-fn search_at(search: &mut Search<'_>, pointer: &[u8]) -> Result<(), SchemaFault> {
-    let Some(schema) = follow_pointer(search.root, pointer) else {
+/// Looks through what a `$ref` points to that is `#` and this.
+fn search_at(search: &mut Search<'_>, fragment: &[u8]) -> Result<(), SchemaFault> {
+    let Some(schema) = follow_fragment(search.root, fragment) else {
         return Ok(());
     };
     let first = search.warnings.len();
     let found = search_part(search, Part::Schema, schema);
-    for part in parts_of(search.alloc, pointer)?.iter().rev() {
+    for part in parts_of(search.alloc, search.root, fragment)?.iter().rev() {
         search.place(first, part.as_str())?;
     }
     match found {
         Ok(()) => Ok(()),
-        Err(fault) => Err(under_pointer(search.alloc, fault, pointer)),
+        Err(fault) => Err(under_fragment(search.alloc, search.root, fault, fragment)),
     }
 }
 
 /// Refuses a document with a keyword that is near another, or under which stands what it does not want, in the schemas at
-/// its top and at these pointers. Gives of what to warn.
+/// its top and to which these fragments refer. Gives of what to warn.
 pub(crate) fn check_keywords(
     alloc: Global,
     root: &Value,

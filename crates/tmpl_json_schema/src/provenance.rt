@@ -12,6 +12,7 @@ use crate::fault::SchemaFault;
 use crate::fields::{has_content, requires_key};
 use crate::kinds::{Kinds, is_every_kind, kinds_of, lets_no_map};
 use crate::read::{choices_in, chosen_by, items_in};
+use crate::reference::pointer_to;
 use percent_encoding::{DecodeError, percent_decode};
 use serde_json::Value;
 use std::alloc::{AllocError, Global};
@@ -180,7 +181,7 @@ impl<'d> Document<'d> {
             return Err(Lost::Untold);
         };
         match percent_decode(fragment.as_bytes()).decode_utf8(self.alloc) {
-            Ok(place) => Ok(place.into_owned(self.alloc)?),
+            Ok(fragment) => Ok(pointer_to(self.alloc, self.root, fragment.as_ref())?),
             Err(DecodeError::OutOfMemory) => Err(Lost::OutOfMemory),
             Err(_) => Err(Lost::Untold),
         }

@@ -19,7 +19,7 @@ use crate::fault::{SchemaFault, at_index, refusal, refusal_of, under};
 use crate::fields::{has_content, is_required, least_in, required_in};
 use crate::kinds::{Kinds, is_every_kind, kinds_in};
 use crate::leaves::leaves_in;
-use crate::reference::{follow_pointer, fragment_of, is_listed};
+use crate::reference::{follow_fragment, fragment_of, is_listed};
 use crate::shapes::{by_kinds, is_anything, keep_kinds, rest_of};
 use serde_json::{Map, Value};
 use std::alloc::{AllocError, Global};
@@ -254,7 +254,7 @@ fn look_up(reader: &Reader<'_>, steps: usize, pointer: &[u8]) -> Read
         inner_lookups: 0,
         ..*reader
     };
-    match follow_pointer(reader.root, pointer) {
+    match follow_fragment(reader.root, pointer) {
         Some(schema) => schema_shape(&nearer, steps, true, schema),
         None => Err(refusal(
             reader.alloc,

@@ -1,14 +1,16 @@
 //! What a `$ref` points to.
-ghost use Rattle.std.specs.Prelude.{◌≡◌, IfOk, IfSome, Some};
-ghost use Rattle.serde_json.specs.Find.{pointer as points_to};
-ghost use Rattle.serde_json.specs.View.{view};
-ghost use Rattle.tmpl_json_schema.specs.Document.{fragment_of};
+ghost use Rattle.std.specs.Prelude.{◌≡◌, IfOk, IfSome, Some, codes, option_map};
+ghost use Rattle.std.specs.Option.{option_or};
+ghost use Rattle.serde_json.specs.View.{members_view, view};
+ghost use Rattle.tmpl_json_schema.specs.Document.{first_named, fragment_of, has_text, is_named, named_under, referent};
 ghost use Rattle.tmpl_json_schema.specs.computed.Reading.{is_listed};
 
 use crate::Result;
+use crate::draft::{Draft, draft_seen};
 use crate::fault::{SchemaFault, under};
+use crate::provenance::below;
 use percent_encoding::percent_decode;
-use serde_json::Value;
+use serde_json::{Map, Value};
 use std::alloc::Global;
 use std::str::from_utf8;
 use tmpl_values::Bytes;
@@ -26,7 +28,7 @@ pub(crate) fn is_listed(names: &[Bytes], name: &[u8]) -> bool
     }
 }
 
-/// The JSON Pointer of a reference within the document, without the escapes of a URI; none where it points elsewhere.
+/// What stands after the `#` of a reference within the document, without the escapes of a URI; none where it points elsewhere.
 pub(crate) fn fragment_of(alloc: Global, reference: &str) -> Result<Option<Bytes>>
     ensures { IfOk result (λ o. o ≡ fragment_of reference.now) }
 {
@@ -40,20 +42,112 @@ pub(crate) fn fragment_of(alloc: Global, reference: &str) -> Result<Option<Bytes
     }
 }
 
-/// What a pointer points to in a document.
-pub(crate) fn follow_pointer<'r>(root: &'r Value, pointer: &[u8]) -> Option<&'r Value>
-    ensures { IfSome result (λ v. points_to pointer.now (view root.now) ≡ Some (view v.now)) }
+/// A definition at the top of a document that has a name.
+#[derive(Clone, Copy)]
+pub(crate) struct NamedSchema<'d> {
+    /// Under which keyword and key it stands.
+    keyword: &'static str,
+    key: &'d str,
+    schema: &'d Value,
+}
+
+/// Whether this text stands under a keyword of a schema.
+fn has_text(keyword: &str, text: &[u8], schema: &Value) -> bool
+    ensures { result ≡ has_text keyword.now text.now (view schema.now) }
 {
-    match from_utf8(pointer) {
-        Ok(path) => root.pointer(path),
-        Err(_) => None,
+    match schema.get(keyword) {
+        Some(Value::String(other)) => other.as_bytes() == text,
+        _ => false,
     }
 }
 
-/// The keys and indexes of a pointer, the first part first.
-pub(crate) fn parts_of(alloc: Global, pointer: &[u8]) -> Result<Vec<String>> {
+/// Whether a schema has this name, in a document of this draft.
+fn is_named(draft: Draft, name: &[u8], schema: &Value) -> bool
+    ensures { result ≡ is_named draft name.now (view schema.now) }
+{
+    if draft.is_since_2019() {
+        return has_text("$anchor", name, schema) || has_text("$dynamicAnchor", name, schema);
+    }
+    match schema.get(draft.identifier()) {
+        Some(Value::String(identifier)) => match identifier.as_bytes() {
+            [b'#', rest @ ..] => rest == name,
+            _ => false,
+        },
+        _ => false,
+    }
+}
+
+/// The first of these definitions that has this name, and its key.
+fn first_named<'d>(
+    draft: Draft,
+    name: &[u8],
+    definitions: &'d Map<String, Value>,
+) -> Option<(&'d str, &'d Value)>
+    ensures { option_map (λ x. view x.1.now) result ≡ first_named draft name.now (members_view definitions.now.entries) }
+{
+    for (key, schema) in definitions.iter() {
+        if is_named(draft, name, schema) {
+            return Some((key.as_str(), schema));
+        }
+    }
+    None
+}
+
+/// The first definition under a keyword at the top that has this name.
+fn named_under<'d>(keyword: &'static str, name: &[u8], root: &'d Value) -> Option<NamedSchema<'d>>
+    ensures { option_map (λ n. view n.schema.now) result ≡ named_under keyword.now name.now (view root.now) }
+{
+    let Some(Value::Object(definitions)) = root.get(keyword) else {
+        return None;
+    };
+    let (key, schema) = first_named(draft_seen(root), name, definitions)?;
+    Some(NamedSchema {
+        keyword,
+        key,
+        schema,
+    })
+}
+
+/// The definition at the top that has this name.
+fn definition_named<'d>(name: &[u8], root: &'d Value) -> Option<NamedSchema<'d>>
+    ensures { option_map (λ n. view n.schema.now) result
+        ≡ option_or (named_under (codes "$defs") name.now (view root.now)) (named_under (codes "definitions") name.now (view root.now)) }
+{
+    match named_under("$defs", name, root) {
+        Some(named) => Some(named),
+        None => named_under("definitions", name, root),
+    }
+}
+
+/// What a `$ref` points to in a document that is `#` and this.
+pub(crate) fn follow_fragment<'d>(root: &'d Value, fragment: &[u8]) -> Option<&'d Value>
+    ensures { IfSome result (λ v. referent fragment.now (view root.now) ≡ Some (view v.now)) }
+{
+    let Ok(text) = from_utf8(fragment) else {
+        return None;
+    };
+    match root.pointer(text) {
+        Some(schema) => Some(schema),
+        None => Some(definition_named(fragment, root)?.schema),
+    }
+}
+
+/// The JSON Pointer to what a `$ref` points to that is `#` and this.
+pub(crate) fn pointer_to(alloc: Global, root: &Value, fragment: &str) -> Result<String> {
+    match definition_named(fragment.as_bytes(), root) {
+        Some(named) if !fragment.starts_with('/') => {
+            let definitions = below(alloc, "", named.keyword)?;
+            below(alloc, definitions.as_str(), named.key)
+        }
+        _ => String::from_str(alloc, fragment),
+    }
+}
+
+/// The keys and indexes that lead to what a `$ref` points to that is `#` and this, the first one first.
+pub(crate) fn parts_of(alloc: Global, root: &Value, fragment: &[u8]) -> Result<Vec<String>> {
     let mut parts = Vec::new(alloc);
-    for part in from_utf8(pointer).unwrap_or("").split('/').skip(1) {
+    let pointer = pointer_to(alloc, root, from_utf8(fragment).unwrap_or(""))?;
+    for part in pointer.as_str().split('/').skip(1) {
         parts.push(unescape(alloc, part)?)?;
     }
     Ok(parts)
@@ -75,9 +169,14 @@ fn unescape(alloc: Global, part: &str) -> Result<String> {
     Ok(text)
 }
 
-/// The fault, found in what a pointer points to.
-pub(crate) fn under_pointer(alloc: Global, fault: SchemaFault, pointer: &[u8]) -> SchemaFault {
-    let parts = match parts_of(alloc, pointer) {
+/// The fault, found in what a `$ref` points to that is `#` and this.
+pub(crate) fn under_fragment(
+    alloc: Global,
+    root: &Value,
+    fault: SchemaFault,
+    fragment: &[u8],
+) -> SchemaFault {
+    let parts = match parts_of(alloc, root, fragment) {
         Ok(parts) => parts,
         Err(_) => return SchemaFault::OutOfMemory,
     };

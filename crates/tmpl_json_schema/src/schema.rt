@@ -2,12 +2,11 @@
 #![tactic(auto, using(tmpl_shape::proofs::ViewLemmas::parts))]
 
 ghost use Rattle.std.specs.Prelude.{◌≡◌, All, IfOk, IfSome, IsSome, OnOk, Some, is_some, option_map, true};
-ghost use Rattle.serde_json.specs.Find.{pointer as points_to};
 ghost use Rattle.serde_json.specs.View.{view};
 ghost use Rattle.tmpl_values.specs.Value.{Value as DataValue};
 ghost use Rattle.tmpl_shape.specs.Shape.{Fits};
 ghost use Rattle.tmpl_shape.specs.View.{defs_in, schema_of};
-ghost use Rattle.tmpl_json_schema.specs.Document.{IsOfSchema, document_of, draft_of};
+ghost use Rattle.tmpl_json_schema.specs.Document.{IsOfSchema, document_of, draft_of, referent};
 ghost use Rattle.tmpl_json_schema.specs.Keywords.{AreKnownAt, IsKnown};
 ghost use Rattle.tmpl_json_schema.specs.computed.Fitting.{IsDefinition, context_of};
 ghost use Rattle.tmpl_json_schema.specs.computed.Defined.{AreLookedUp, are_defined};
@@ -19,7 +18,7 @@ use crate::fault::{Refused, SchemaFault, refusal, refusal_of};
 use crate::keyword::check_keywords;
 use crate::known::is_known;
 use crate::read::{Reader, shape_by};
-use crate::reference::{MOST_DEFINITIONS, follow_pointer, fragment_of, is_listed, under_pointer};
+use crate::reference::{MOST_DEFINITIONS, follow_fragment, fragment_of, is_listed, under_fragment};
 use serde_json::Value;
 use std::alloc::{AllocError, Global};
 use std::str::from_utf8;
@@ -121,7 +120,7 @@ fn add_name(alloc: Global, root: &Value, reference: &Value, names: &mut Vec<Byte
     if names.len() > MOST_DEFINITIONS || is_listed(names.as_slice(), name.as_slice()) {
         return Ok(());
     }
-    if follow_pointer(root, name.as_slice()).is_some() {
+    if follow_fragment(root, name.as_slice()).is_some() {
         names.push(name)?;
     }
     Ok(())
@@ -131,7 +130,7 @@ fn add_name(alloc: Global, root: &Value, reference: &Value, names: &mut Vec<Byte
 fn definition_of(reader: &Reader<'_>, name: &[u8]) -> Result<Definition, SchemaFault>
     ensures { IfOk result (λ d. IsDefinition (context_of reader.now) d) }
 {
-    let Some(value) = follow_pointer(reader.root, name) else {
+    let Some(value) = follow_fragment(reader.root, name) else {
         return Err(refusal(
             reader.alloc,
             "a reference points to nothing in the document",
@@ -142,7 +141,7 @@ fn definition_of(reader: &Reader<'_>, name: &[u8]) -> Result<Definition, SchemaF
             let name = copy_name(reader.alloc, name)?;
             Ok(Definition { name, shape })
         }
-        Err(fault) => Err(under_pointer(reader.alloc, fault, name)),
+        Err(fault) => Err(under_fragment(reader.alloc, reader.root, fault, name)),
     }
 }
 
@@ -421,9 +420,9 @@ fn are_known_at(root: &Value, definitions: &[Definition]) -> bool
 
 /// Whether each keyword is allowed of what is at a pointer.
 fn is_known_at(root: &Value, name: &[u8]) -> bool
-    ensures { result ≡ true → IfSome (points_to name.now (view root.now)) IsKnown }
+    ensures { result ≡ true → IfSome (referent name.now (view root.now)) IsKnown }
 {
-    match follow_pointer(root, name) {
+    match follow_fragment(root, name) {
         Some(schema) => is_known(LEVELS, schema),
         None => false,
     }

@@ -3,6 +3,7 @@
 
 use crate::Result;
 use crate::conform::{Conformity, Judge, LEVELS, follow_reference, has_effect, is_property};
+use crate::reference::pointer_to;
 use serde_json::{Map, Value, put};
 use std::alloc::{AllocError, Global};
 use std::mem::replace;
@@ -160,7 +161,9 @@ impl<'w> Walk<'w> {
         ) else {
             return Ok(());
         };
-        let way = way_of(self.alloc, text)?;
+        let fragment = text.strip_prefix('#').unwrap_or("");
+        let pointer = pointer_to(self.alloc, self.root, fragment)?;
+        let way = way_of(self.alloc, pointer.as_str())?;
         let before = replace(&mut self.way, way);
         self.visit(levels, schema, value)?;
         self.way = before;
@@ -383,10 +386,10 @@ fn place_of(alloc: Global, path: &[Step]) -> Result<String> {
     Ok(place)
 }
 
-/// The parts of the JSON Pointer of a reference within the document.
-fn way_of(alloc: Global, reference: &str) -> Result<Vec<String>> {
+/// The parts of a JSON Pointer.
+fn way_of(alloc: Global, pointer: &str) -> Result<Vec<String>> {
     let mut way = Vec::new(alloc);
-    for part in reference.split('/').skip(1) {
+    for part in pointer.split('/').skip(1) {
         way.push(String::from_str(alloc, part)?)?;
     }
     Ok(way)

@@ -6,9 +6,9 @@ use Rattle.std.specs.Result.{result_ok}
 use Rattle.tmpl_values.specs.Value.{Value, nothing}
 use Rattle.tmpl_funcs.specs.Func.{takes}
 use Rattle.tmpl_grammar.specs.Tree.{Operand, dot, fields, variable, nil, function, group}
-use Rattle.tmpl_grammar.specs.Tree.{Operands, no_operand, operand, Pipeline, no_command, command}
+use Rattle.tmpl_grammar.specs.Tree.{Operands, no_operand, operand, Pipeline, no_command, command, operand_count}
 use Rattle.tmpl_meaning.specs.Pipeline.{Place, lookup, without_null, as_given, given_then, apply_function, by_function, decides}
-use Rattle.tmpl_meaning.specs.Pipeline.{operand_count, operand_value, operand_values, junction, command_value, commands_value}
+use Rattle.tmpl_meaning.specs.Pipeline.{operand_value, operand_values, junction, command_value, commands_value}
 use Rattle.tmpl_meaning.proofs.PartLemmas.{by_count, decided}
 use Rattle.tmpl_meaning.specs.Fault.{Cause}
 use Rattle.tmpl_loops.specs.Form.{are_all_seen, are_seen, is_seen}

@@ -9,4 +9,3 @@ pub mod StepLemmas
 pub mod TestLemmas
 pub mod TextLemmas
 pub mod ValueLemmas
-pub mod WeightLemmas

@@ -10,11 +10,11 @@ use Rattle.std.specs.Str.{bytes_eq}
 use Rattle.tmpl_values.specs.Value.{Value, nothing}
 use Rattle.tmpl_funcs.specs.Func.{takes}
 use Rattle.tmpl_grammar.specs.Tree.{Operand, variable, nil, function, group}
-use Rattle.tmpl_grammar.specs.Tree.{Operands, no_operand, operand, Pipeline, no_command, command}
+use Rattle.tmpl_grammar.specs.Tree.{Operands, no_operand, operand, Pipeline, no_command, command, operand_count}
 use Rattle.tmpl_syntax.specs.Place.Role.{Name, used_by_operand, used_by_operands, used_by}
 use Rattle.tmpl_syntax.specs.Formed.{is_among, are_among}
 use Rattle.tmpl_meaning.specs.Pipeline.{Environment, Place, lookup, chain, without_null, as_given, given_then, apply_function, by_function, decides}
-use Rattle.tmpl_meaning.specs.Pipeline.{operand_count, operand_value, operand_values, junction, command_value, commands_value}
+use Rattle.tmpl_meaning.specs.Pipeline.{operand_value, operand_values, junction, command_value, commands_value}
 use Rattle.tmpl_meaning.proofs.PartLemmas.{by_count, decided}
 use Rattle.tmpl_meaning.specs.declared.missing_key.MissingKey.{MissingKey}
 

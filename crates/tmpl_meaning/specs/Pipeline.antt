@@ -1,6 +1,6 @@
 -- The value of a pipeline ("Arguments", "Pipelines", "Variables" and "Functions" in the documentation of Go's
 -- text/template). What nothing, null and the modes for missing keys do is our own rule, also where Go differs.
-use Rattle.std.specs.Prelude.{ℕ, suc, ◌+◌, Bool, true, false, not, ◌||◌, List, [], ◌∷◌, ◌++◌, Option, Some}
+use Rattle.std.specs.Prelude.{ℕ, ◌+◌, Bool, true, false, not, ◌||◌, List, [], ◌∷◌, ◌++◌, Option, Some}
 use Rattle.std.specs.Prelude.{None, Result, Ok, Err, length, option_to_list, unwrap_or, if◌then◌else◌}
 use Rattle.std.specs.Option.{option_map_or}
 use Rattle.std.specs.Result.{result_map_both}
@@ -16,7 +16,7 @@ use Rattle.tmpl_funcs.specs.declared.func.Func.{Func}
 use Rattle.tmpl_funcs.specs.declared.func.Func.TheVariants.{And, Or}
 use Rattle.tmpl_funcs.specs.declared.fault.CallFault.TheVariants.{WrongCount}
 use Rattle.tmpl_grammar.specs.Tree.{Operand, dot, fields, variable, bool_constant, number_constant}
-use Rattle.tmpl_grammar.specs.Tree.{text_constant, nil, function, group, Operands, no_operand, operand}
+use Rattle.tmpl_grammar.specs.Tree.{text_constant, nil, function, group, Operands, no_operand, operand, operand_count}
 use Rattle.tmpl_grammar.specs.Tree.{Pipeline, no_command, command}
 use Rattle.tmpl_meaning.specs.Fault.{Cause, not_a_function, nil_command, lacks_field, lacks_entry, call_failed}
 use Rattle.tmpl_meaning.specs.declared.missing_key.MissingKey.{MissingKey}
@@ -81,10 +81,6 @@ abbrev pub by_function : Func → Given Value → Given Value → Given Value �
 by_function And all both either = both
 by_function Or all both either = either
 by_function f all both either = all
-
-abbrev pub operand_count : Operands → ℕ
-operand_count no_operand = 0
-operand_count (operand o os) = suc (operand_count os)
 
 -- whether a value decides an `or`, as the first that is not empty, or an `and`, as the first that is
 abbrev pub decides : Bool → Value → Bool

@@ -1,6 +1,6 @@
 -- Commands that fail at each run that gets to them, whatever the data is: our own rules. A law of `tmpl_problems` ties them
 -- to the meaning of templates.
-use Rattle.std.specs.Prelude.{ℕ, suc, ◌+◌, Bool, true, false, not, ◌&&◌, ◌||◌, List, [], ◌∷◌, Option, Some, None, Ok, Err}
+use Rattle.std.specs.Prelude.{◌+◌, Bool, true, false, not, ◌&&◌, ◌||◌, List, [], ◌∷◌, Option, Some, None, Ok, Err}
 use Rattle.std.specs.Option.{option_map_or}
 use Rattle.tmpl_values.specs.Value.{Value, nothing, boolean, number, string}
 use Rattle.tmpl_funcs.specs.Arguments.{Answer}
@@ -9,11 +9,7 @@ use Rattle.tmpl_funcs.specs.Func.{is_called, makes_text, takes}
 use Rattle.tmpl_funcs.specs.declared.func.Func.{Func}
 use Rattle.tmpl_grammar.specs.Action.{Action, pipeline_action, opening, else_branch, template_action, block_action}
 use Rattle.tmpl_grammar.specs.Tree.{Operand, bool_constant, number_constant, text_constant, nil, function, group}
-use Rattle.tmpl_grammar.specs.Tree.{Operands, no_operand, operand, Pipeline, no_command, command}
-
-abbrev pub operand_count : Operands → ℕ
-operand_count no_operand = 0
-operand_count (operand o os) = suc (operand_count os)
+use Rattle.tmpl_grammar.specs.Tree.{Operands, no_operand, operand, operand_count, Pipeline, no_command, command}
 
 -- the value of a constant
 abbrev pub constant_value : Operand → Option Value

@@ -41,7 +41,7 @@ pub(crate) fn failing_in_reading<'t>(
 
 /// What fails first in a pipeline, if something does.
 #[cycle(walk)]
-#[tactic(auto, using(crate::proofs::FailingLemmas::lighter))]
+#[tactic(auto, using(tmpl_grammar::proofs::WeightLemmas::lighter))]
 fn failing_in<'t>(alloc: Global, commands: &'t [Command]) -> Result<Option<Failing<'t>>, AllocError>
     ensures { IfOk result (λ o. is_some o ≡ spec.fails_within (commands_in commands.now) false) }
 {
@@ -77,7 +77,7 @@ fn failing_command<'t>(
 
 /// What fails first in these operands of a command, if something does.
 #[cycle(walk)]
-#[tactic(auto, using(crate::proofs::FailingLemmas::lighter))]
+#[tactic(auto, using(tmpl_grammar::proofs::WeightLemmas::lighter))]
 fn failing_among<'t>(
     alloc: Global,
     whole: &'t [Operand],
@@ -139,7 +139,7 @@ fn has_argument(arguments: &[Operand], is_piped: bool) -> bool
 }
 
 /// Whether a call of a function fails at each run that gets to it.
-#[tactic(auto, using(crate::proofs::FailingLemmas::counted))]
+#[tactic(auto, using(tmpl_grammar::proofs::WeightLemmas::counts))]
 fn call_fails(
     alloc: Global,
     func: Func,

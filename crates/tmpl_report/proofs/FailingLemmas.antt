@@ -1,5 +1,5 @@
 -- Commands that always fail have no value.
-use Rattle.std.proofs.Common.{◌≡◌, ◌∙◌, suc, ◌+◌, Bool, true, false, not, ◌&&◌, ◌||◌, List, [], ◌∷◌, ◌++◌, Option, Some, None, Ok, Err, refl, sym, ap, arith}
+use Rattle.std.proofs.Common.{◌≡◌, ◌∙◌, ◌+◌, Bool, true, false, not, ◌&&◌, ◌||◌, List, [], ◌∷◌, ◌++◌, Option, Some, None, Ok, Err, refl, sym, ap, arith}
 use Rattle.std.specs.Prelude.{if◌then◌else◌, is_some}
 use Rattle.std.specs.Option.{option_map_or}
 use Rattle.std.specs.Result.{result_map_both}
@@ -12,16 +12,11 @@ use Rattle.tmpl_funcs.specs.Func.{is_called, makes_text, takes}
 use Rattle.tmpl_funcs.specs.declared.func.Func.{Func}
 use Rattle.tmpl_funcs.specs.declared.func.Func.TheVariants as func
 use Rattle.tmpl_funcs.specs.declared.fault.CallFault.TheVariants.{WrongCount}
-use Rattle.tmpl_grammar.specs.Tree.{Operand, dot, fields, variable, bool_constant, number_constant, text_constant, nil, function, group, Operands, no_operand, operand}
+use Rattle.tmpl_grammar.specs.Tree.{Operand, dot, fields, variable, bool_constant, number_constant, text_constant, nil, function, group, Operands, no_operand, operand, operand_count}
 use Rattle.tmpl_meaning.specs.Fault.{Cause, call_failed, nil_command, not_a_function}
-use Rattle.tmpl_meaning.specs.Pipeline as meaning
 use Rattle.tmpl_meaning.specs.Pipeline.{Given, Place, apply_function, as_given, by_function, command_value, given_then, go_on, junction, operand_value, operand_values}
-use Rattle.tmpl_problems.specs.Failing.{always_fails, both_values, constant_value, constant_values, is_refusal, operand_count, refuses}
+use Rattle.tmpl_problems.specs.Failing.{always_fails, both_values, constant_value, constant_values, is_refusal, refuses}
 use Rattle.tmpl_report.specs.Laws.{ArgumentFails, CommandFails, HasNoValue}
-
-same_count : (os : Operands) → operand_count os ≡ meaning.operand_count os
-same_count no_operand = refl
-same_count (operand o os) = ap suc (same_count os)
 
 -- ---- constants have their values
 
@@ -118,13 +113,12 @@ chosen f g false why = (call_failed f WrongCount, refl)
 call_fails : (s : Place) (f : Func) (os : Operands) (piped : Option Value) → always_fails (operand (function f) os) (is_some piped) ≡ true
     → HasNoValue (command_value s (operand (function f) os) piped)
 call_fails s f os None e =
-    let n : operand_count os ≡ meaning.operand_count os + 0 = omega (arith, same_count os) in
-    chosen f _ (takes f (meaning.operand_count os + 0))
+    let n : operand_count os ≡ operand_count os + 0 = omega arith in
+    chosen f _ (takes f (operand_count os + 0))
     (λ t. refused s f os (or_right (not (takes f (operand_count os))) (refuses f os) (ap (λ k. not (takes f k)) n ∙ ap not t) e))
 call_fails s f os (Some v) e =
-    let n : operand_count os + 1 ≡ meaning.operand_count os + 1 = omega (arith, same_count os) in
-    chosen f _ (takes f (meaning.operand_count os + 1))
-    (λ t. absurd (let why : false ≡ true = sym (ap (λ k. not (takes f k)) n ∙ ap not t) ∙ e in cc))
+    chosen f _ (takes f (operand_count os + 1))
+    (λ t. absurd (let why : false ≡ true = sym (ap not t) ∙ e in cc))
 
 -- ---- other commands
 

@@ -39,3 +39,4 @@ pub mod ViewLemmas
 pub mod SameSetLemmas
 pub mod PrintedFileLemmas
 pub mod PrintedFileExamples
+pub mod WeightLemmas

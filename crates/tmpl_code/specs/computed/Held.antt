@@ -5,7 +5,7 @@ use Rattle.std.specs.Prelude.{map, reverse, ◌++◌}
 use Rattle.tmpl_funcs.specs.Func.{takes}
 use Rattle.tmpl_funcs.specs.declared.func.Func.{Func}
 use Rattle.tmpl_grammar.specs.Need.{declared_count}
-use Rattle.tmpl_grammar.specs.Tree.{Binding, unbound, declare, assign, declare_pair, Operands}
+use Rattle.tmpl_grammar.specs.Tree.{Binding, unbound, declare, assign, declare_pair, Operands, operand_count}
 use Rattle.tmpl_grammar.specs.View.{header_of}
 use Rattle.tmpl_grammar.specs.declared.tree.Control.{Control}
 use Rattle.tmpl_syntax.specs.Tree as tree
@@ -13,7 +13,7 @@ use Rattle.tmpl_syntax.specs.Tree.{NodeKind, text, action, control_node, templat
 use Rattle.tmpl_syntax.specs.Tree.{Nodes}
 use Rattle.tmpl_syntax.specs.Set.{Template, number_of}
 use Rattle.tmpl_syntax.specs.View.{nodes_in}
-use Rattle.tmpl_code.specs.Code.{argument_count, operand_count, CallBy, CountedAt, JunctionAt, OperandsAt}
+use Rattle.tmpl_code.specs.Code.{argument_count, CallBy, CountedAt, JunctionAt, OperandsAt}
 use Rattle.tmpl_code.specs.Code.{Code, Ended, Exit, NodeAt, NodesAt, NodesPart, Stretch, TreeAt, TurnAt, step_of_call}
 use Rattle.tmpl_code.specs.Instruction.{Instruction, act, call_with, decide}
 use Rattle.tmpl_code.specs.Layout.{Layout, bound_on, declared_in, after_node}

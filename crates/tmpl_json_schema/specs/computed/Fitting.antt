@@ -2,14 +2,14 @@
 use Rattle.std.specs.Prelude.{◌≡◌, ◌⊎◌, ◌≤◌, ℕ, suc, true, false, not, ◌&&◌, List, Option, Some, None, is_some, IfSome, codes}
 use Rattle.serde_json.specs.Data as json
 use Rattle.serde_json.specs.Data.{Data, Members}
-use Rattle.serde_json.specs.Find.{get, pointer}
+use Rattle.serde_json.specs.Find.{get}
 use Rattle.serde_json.specs.View.{view}
 use Rattle.tmpl_values.specs.Value.{Value, Entries, nothing, null, boolean, number, string, sequence, mapping}
 use Rattle.tmpl_shape.specs.Shape.{AreDistinct, Fields, HasRequired, HasShape, IsField, Names, Shape, record_of}
 use Rattle.tmpl_shape.specs.View.{shape_of}
 use Rattle.tmpl_shape.specs.declared.shape.Definition.{Definition}
 use Rattle.tmpl_json_schema.specs.Document.{FitsAdditional, FitsEach, FitsItems, FitsPattern, FitsProperties, FitsProperty, FitsSome, HasItems, HasKeys}
-use Rattle.tmpl_json_schema.specs.Document.{IsConstant, IsInstance, IsOfType, IsOneOf, base_of, conforms_in, draft_of, is_property, is_since_2019, items_in, refer}
+use Rattle.tmpl_json_schema.specs.Document.{IsConstant, IsInstance, IsOfType, IsOneOf, base_of, conforms_in, draft_of, is_property, is_since_2019, items_in, refer, referent}
 use Rattle.tmpl_json_schema.specs.declared.draft.Draft.{Draft}
 use Rattle.tmpl_json_schema.specs.declared.kinds.Kinds.{Kinds}
 use Rattle.tmpl_json_schema.specs.declared.read.Reader as held_reader
@@ -45,7 +45,7 @@ Conforms c n = conforms_in (base_of c.root) n
 
 -- a name stands for what conforms at its pointer, where fewer are followed
 abbrev pub NamesIn : Context → ℕ → Names
-NamesIn c n p v = (m : ℕ) × (suc m ≤ n) × (is_listed c.names p ≡ true) × IfSome (pointer p (base_of c.root)) (λ d. Conforms c m d v)
+NamesIn c n p v = (m : ℕ) × (suc m ≤ n) × (is_listed c.names p ≡ true) × IfSome (referent p (base_of c.root)) (λ d. Conforms c m d v)
 
 -- each value that conforms to the schema has the shape
 abbrev pub IsReadOf : Context → Data → Shape → Type 0
@@ -91,7 +91,7 @@ PlainOf ks d C v = HasKind ks v × Plain d C v
 
 -- .. to what is at a pointer
 abbrev pub At : Context → List ℕ → (Data → Value → Type 0) → Value → Type 0
-At c p C v = (is_listed c.names p ≡ true) × IfSome (pointer p (base_of c.root)) (λ d. C d v)
+At c p C v = (is_listed c.names p ≡ true) × IfSome (referent p (base_of c.root)) (λ d. C d v)
 
 -- .. to that, and to what stands beside the `$ref` of it, where this counts
 abbrev pub Referred : Context → Data → List ℕ → (Data → Value → Type 0) → Value → Type 0
@@ -137,4 +137,4 @@ WithEachProperty c d = WithEachOf c (get (codes "required") d) (get (codes "prop
 
 -- the name of a definition is the pointer to what its shape is read of
 abbrev pub IsDefinition : Context → Definition → Type 0
-IsDefinition c d = (v : Data) × (pointer d.name c.root ≡ Some v) × IsReadOf c v (shape_of d.shape)
+IsDefinition c d = (v : Data) × (referent d.name c.root ≡ Some v) × IsReadOf c v (shape_of d.shape)

@@ -3,7 +3,7 @@ use Rattle.tmpl_grammar.specs.View.{commands_in, operand_of, operands_in}
 use Rattle.tmpl_grammar.specs.Need.{need_of_commands, need_of_arguments}
 use Rattle.tmpl_code.specs.MakesText.{commands_make_text, operands_make_text}
 use Rattle.tmpl_code.specs.computed.Surveyed.{Surveys}
-use Rattle.tmpl_code.proofs.OperandLemmas.{all_weight, weight, weights}
+use Rattle.tmpl_grammar.proofs.WeightLemmas.{all_weight, weight, weights}
 use Rattle.tmpl_code.proofs.cost.+pipes.Given as goal
 
 abbrev pub decreases-cost_of_commands : goal.decreases-cost_of_commands

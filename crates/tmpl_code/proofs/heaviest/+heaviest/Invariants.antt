@@ -1,7 +1,7 @@
 use Rattle.std.proofs.Common.{◌≡◌, ◌≤◌, ◌+◌, ◌*◌, drop, length}
 use Rattle.tmpl_syntax.specs.View.{node_of, nodes_in, set_view}
 use Rattle.tmpl_code.specs.computed.Weights.{heaviest_of_nodes}
-use Rattle.tmpl_code.proofs.NodeLemmas.{node_weight, nodes_weight}
+use Rattle.tmpl_syntax.proofs.WeightLemmas.{node_weight, nodes_weight}
 use Rattle.tmpl_code.proofs.heaviest.+heaviest.Given as goal
 
 abbrev pub decreases-heaviest_of_nodes : goal.decreases-heaviest_of_nodes

@@ -2,7 +2,7 @@ use Rattle.std.proofs.Common.{◌≡◌, ◌≤◌, ◌+◌, ◌*◌, true, drop
 use Rattle.tmpl_grammar.specs.View.{commands_in, operand_of, operands_in}
 use Rattle.tmpl_code.specs.computed.Held.{Ends, code_of, layout_of}
 use Rattle.tmpl_code.specs.Code.{is_last, CommandsAt, JunctionAt, OperandsAt}
-use Rattle.tmpl_code.proofs.OperandLemmas.{all_weight, weight, weights}
+use Rattle.tmpl_grammar.proofs.WeightLemmas.{all_weight, weight, weights}
 use Rattle.tmpl_code.proofs.pipeline.+pipeline.Given as goal
 
 abbrev pub decreases-put_commands : goal.decreases-put_commands

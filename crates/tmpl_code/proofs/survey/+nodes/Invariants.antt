@@ -1,7 +1,7 @@
 use Rattle.std.proofs.Common.{◌≤◌, ◌+◌, ◌*◌, drop, length}
 use Rattle.tmpl_syntax.specs.View.{control_of, node_of, nodes_in}
 use Rattle.tmpl_code.specs.computed.Surveyed.{SurveysNodes}
-use Rattle.tmpl_code.proofs.NodeLemmas.{node_weight, nodes_weight}
+use Rattle.tmpl_syntax.proofs.WeightLemmas.{node_weight, nodes_weight}
 use Rattle.tmpl_code.proofs.survey.+nodes.Given as goal
 
 abbrev pub decreases-survey_nodes : goal.decreases-survey_nodes

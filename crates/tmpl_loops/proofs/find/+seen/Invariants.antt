@@ -1,5 +1,5 @@
 use Rattle.tmpl_grammar.specs.View.{commands_in, operand_of, operands_in}
-use Rattle.tmpl_loops.proofs.WeightLemmas.{all_weight, weight, weights}
+use Rattle.tmpl_grammar.proofs.WeightLemmas.{all_weight, weight, weights}
 use Rattle.tmpl_loops.proofs.find.+seen.Given as goal
 
 abbrev pub decreases-is_seen : goal.decreases-is_seen

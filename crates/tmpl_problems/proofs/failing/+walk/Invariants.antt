@@ -1,7 +1,7 @@
 use Rattle.std.proofs.Common.{◌≡◌, ◌+◌, ◌*◌, false, drop}
 use Rattle.tmpl_grammar.specs.View.{commands_in, operand_of, operands_in}
 use Rattle.tmpl_problems.specs.Failing.{fails_among, fails_within}
-use Rattle.tmpl_problems.proofs.FailingLemmas.{all_weight, weight, weights}
+use Rattle.tmpl_grammar.proofs.WeightLemmas.{all_weight, weight, weights}
 use Rattle.tmpl_problems.proofs.failing.+walk.Given as goal
 
 abbrev pub decreases-failing_in : goal.decreases-failing_in

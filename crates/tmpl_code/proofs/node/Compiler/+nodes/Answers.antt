@@ -3,7 +3,8 @@ use Rattle.std.proofs.lemmas.Result.{on_ok_weaker}
 use Rattle.tmpl_grammar.specs.View.{binding_of, header_of}
 use Rattle.tmpl_syntax.specs.View.{node_of, nodes_in, set_view}
 use Rattle.tmpl_code.specs.computed.Held.{code_of}
-use Rattle.tmpl_code.proofs.NodeLemmas.{item-weight, step_called}
+use Rattle.tmpl_syntax.proofs.WeightLemmas.{item-weight}
+use Rattle.tmpl_code.proofs.NodeLemmas.{step_called}
 use Rattle.tmpl_code.proofs.TailLemmas as tail
 use Rattle.tmpl_code.proofs.node.Compiler.+nodes.Goals as goal
 

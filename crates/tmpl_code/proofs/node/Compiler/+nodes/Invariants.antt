@@ -1,6 +1,6 @@
 use Rattle.std.proofs.Common.{◌+◌, ◌*◌}
 use Rattle.tmpl_syntax.specs.View.{control_of, node_of, nodes_in, set_view}
-use Rattle.tmpl_code.proofs.NodeLemmas.{node_weight, nodes_weight}
+use Rattle.tmpl_syntax.proofs.WeightLemmas.{node_weight, nodes_weight}
 use Rattle.tmpl_code.proofs.TailLemmas.{Putting}
 use Rattle.tmpl_code.proofs.node.Compiler.+nodes.Given as goal
 
