@@ -15,7 +15,7 @@ use Rattle.serde_json.specs.declared.value.Value as tree
 use Rattle.tmpl_values.specs.Value.{Value, Entries, no_entry, entry, nothing, null, boolean, number, string, sequence, mapping, item, no_item}
 use Rattle.tmpl_values.specs.Value as value
 use Rattle.tmpl_values.specs.Elements.{values_of_items}
-use Rattle.tmpl_shape.specs.Shape.{Shape, Names, Defs, Fields, field, EachEntry, EachItem, HasRequired, HasShape, IsField, stands_for}
+use Rattle.tmpl_shape.specs.Shape.{Shape, named, Names, Defs, Fields, field, EachEntry, EachItem, HasRequired, HasShape, IsField, stands_for}
 use Rattle.tmpl_shape.specs.View.{defs_in, shape_of}
 use Rattle.tmpl_shape.specs.declared.shape.Definition.{Definition}
 use Rattle.tmpl_shape.specs.computed.Meet.{or_shape}
@@ -167,6 +167,10 @@ referred c d p s e h = λ sound n v x. h sound n v (by (Conforms c n) (get (code
     by : (C : Data → Value → Type 0) (o : Option Data) (v : Value) → option_and_then (listed_in c.names) o ≡ Some p → IfSome o (λ r. IfSome (refer (base_of c.root) r) (λ t. C t v)) → At c p C v
     by C None v e x = absurd (not-some p e)
     by C (Some r) v e x = refers-to c.names (base_of c.root) (λ t. C t v) r p e x
+
+-- a name has what conforms to what it stands for
+pub name-has : (c : Context) (p : List ℕ) → Has c (At c p) (named p)
+name-has c p sound n v h = (n, omega arith, h.0, h.1)
 
 pub looked-up : (c : Context) (p : List ℕ) (d : Data) (s : Shape) → referent p c.root ≡ Some d → IsReadOf c d s → Has c (At c p) s
 looked-up c p d s e h = λ sound n v x. inside c d s h sound n v (at (Conforms c n) v sound.1 x)

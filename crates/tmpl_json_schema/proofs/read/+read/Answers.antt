@@ -10,11 +10,11 @@ use Rattle.serde_json.proofs.Views.{view-Object}
 use Rattle.tmpl_values.specs.Value.{Value}
 use Rattle.tmpl_shape.specs.Shape.{Fields, HasShape, Shape, field}
 use Rattle.tmpl_shape.specs.View.{fields_of, shape_of}
-use Rattle.tmpl_shape.proofs.ViewLemmas.{anything_seen}
+use Rattle.tmpl_shape.proofs.ViewLemmas.{anything_seen, named_seen}
 use Rattle.tmpl_json_schema.specs.Document.{EachItemOf, FitsSome, SomeItem, SomeMember, is_since_2019, items_in}
 use Rattle.tmpl_json_schema.specs.computed.Reading.{by_kinds, is_required, keep_kinds, least_in, listed_in, required_in, rest_of, leaves_in}
 use Rattle.tmpl_json_schema.specs.computed.Fitting.{Adds, At, Conforms, Context, IsBeside, Keeps, NamesIn, WithEachOf, WithProperties, context_of}
-use Rattle.tmpl_json_schema.proofs.DocumentLemmas.{add-one, add-pattern, additional-has, content-has, fields-has, inside, items-next, keep-one, kinds-of, looked-up, put-none, put-one, read-object, referred}
+use Rattle.tmpl_json_schema.proofs.DocumentLemmas.{add-one, add-pattern, additional-has, content-has, fields-has, inside, items-next, keep-one, kinds-of, looked-up, name-has, put-none, put-one, read-object, referred}
 use Rattle.tmpl_json_schema.proofs.KindLemmas.{kept-has}
 use Rattle.tmpl_json_schema.proofs.read.+read.Goals as goal
 
@@ -184,3 +184,10 @@ with_each_pattern-loop-pattern-preserved t c = λ s h.
     c.loop-pattern.invariant s (subst (λ es. Adds context (λ C v. SomeMember (λ x. C x v) (members_view es)) all s) (sym c.in-Some.ensures.steps)
     (add-pattern context (string_bytes c.in-Some.pattern.now) (view c.in-Some.schema.now) rest all (shape_of c.in-Ok.one) s c.in-Ok.ensures
     (subst (λ (b : Shape). Adds context (λ C v. SomeMember (λ x. C x v) rest) b s) c.in_ok-all-in-Ok.ensures h)))
+
+pub look_up-returns-then-reader-eq0 : goal.look_up-returns-then-reader-eq0
+look_up-returns-then-reader-eq0 t c = λ sound n v h.
+    rw (named_seen, c.in_ok-copy_name.ensures) (name-has (context_of c.args.reader.now) c.args.pointer.now sound n v h)
+
+pub reference_shape-returns : goal.reference_shape-returns
+reference_shape-returns t c = λ unread sound n v h. rw named_seen (name-has (context_of c.args.reader.now) c.args.pointer sound n v h.0)
