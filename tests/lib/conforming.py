@@ -35,7 +35,7 @@ def name_of(root, schema):
 def pointed(root, reference):
     """What a reference within a document points to; the names in the schemas that are drawn have no escapes but these."""
     if reference[1:] and not reference.startswith("#/"):
-        return next(it for key in ("$defs", "definitions") for it in root.get(key, {}).values() if name_of(root, it) == reference[1:])
+        return next(it for it in root["$defs" if year(root) >= 2019 else "definitions"].values() if name_of(root, it) == reference[1:])
     at = root
     for part in filter(None, reference[1:].replace("%25", "%").split("/")):
         at = at[part.replace("~1", "/").replace("~0", "~")]
@@ -245,9 +245,9 @@ def by_name(schema, keyword):
     """A document that is drawn, of which a definition has a name, and each reference to that is by this."""
     if year(schema) >= 2019:
         schema["$defs"]["n"][keyword] = "some"
-    else:
-        schema["$defs"]["n"]["id" if year(schema) == 4 else "$id"] = "#some"
-    return json.loads(json.dumps(schema).replace('"#/$defs/n"', '"#some"'))
+        return json.loads(json.dumps(schema).replace('"#/$defs/n"', '"#some"'))
+    schema["$defs"]["n"]["id" if year(schema) == 4 else "$id"] = "#some"
+    return json.loads(json.dumps(schema).replace('"#/$defs/n"', '"#some"').replace("$defs", "definitions"))
 
 
 def stands_for_itself(schema):

@@ -215,13 +215,18 @@ abbrev pub first_named : Draft → List ℕ → Members → Option Data
 first_named draft name no_members = None
 first_named draft name (member k d ms) = if is_named draft name d then Some d else first_named draft name ms
 
-abbrev pub named_under : List ℕ → List ℕ → Data → Option Data
-named_under keyword name root =
-    option_and_then (first_named (unwrap_or (draft_of root) Draft2020) name) (option_and_then as_object (get keyword root))
+-- .. of those at the top, of which each draft has the keyword
+abbrev pub definitions_of : Draft → List ℕ
+definitions_of draft = if is_since_2019 draft then codes "$defs" else codes "definitions"
+
+abbrev pub definition_named : List ℕ → Data → Option Data
+definition_named name root =
+    let draft = unwrap_or (draft_of root) Draft2020 in
+    option_and_then (first_named draft name) (option_and_then as_object (get (definitions_of draft) root))
 
 -- what stands at a JSON Pointer, or else the definition at the top that has this name
 abbrev pub referent : List ℕ → Data → Option Data
-referent fragment root = option_or (pointer fragment root) (option_or (named_under (codes "$defs") fragment root) (named_under (codes "definitions") fragment root))
+referent fragment root = option_or (pointer fragment root) (definition_named fragment root)
 
 abbrev pub refer : Data → Data → Option Data
 refer root (json.string r) = option_and_then (λ p. referent p root) (fragment_of r)

@@ -3,7 +3,7 @@ ghost use Rattle.std.specs.Prelude.{◌≡◌, IfOk, Some};
 ghost use Rattle.std.specs.Option.{unwrap_or};
 ghost use Rattle.serde_json.specs.View.{view};
 ghost use Rattle.tmpl_json_schema.specs.declared.draft.Draft.TheVariants as draft;
-ghost use Rattle.tmpl_json_schema.specs.Document.{draft_in, draft_named, draft_of, has_const, identifier_of, is_since_2019};
+ghost use Rattle.tmpl_json_schema.specs.Document.{definitions_of, draft_in, draft_named, draft_of, has_const, identifier_of, is_since_2019};
 
 use crate::fault::{SchemaFault, refusal, refusal_of, under};
 use serde_json::Value;
@@ -34,6 +34,17 @@ impl Draft {
         match self {
             Draft::Draft04 => "id",
             Draft::Draft06 | Draft::Draft07 | Draft::Draft2019 | Draft::Draft2020 => "$id",
+        }
+    }
+
+    /// The keyword of definitions.
+    pub(crate) fn definitions(self) -> &'static str
+        ensures { result.now ≡ definitions_of self }
+    {
+        if self.is_since_2019() {
+            "$defs"
+        } else {
+            "definitions"
         }
     }
 

@@ -1,8 +1,7 @@
 //! What a `$ref` points to.
-ghost use Rattle.std.specs.Prelude.{◌≡◌, IfOk, IfSome, Some, codes, option_map};
-ghost use Rattle.std.specs.Option.{option_or};
+ghost use Rattle.std.specs.Prelude.{◌≡◌, IfOk, IfSome, Some, option_map};
 ghost use Rattle.serde_json.specs.View.{members_view, view};
-ghost use Rattle.tmpl_json_schema.specs.Document.{first_named, fragment_of, has_text, is_named, named_under, referent};
+ghost use Rattle.tmpl_json_schema.specs.Document.{definition_named, first_named, fragment_of, has_text, is_named, referent};
 ghost use Rattle.tmpl_json_schema.specs.computed.Reading.{is_listed};
 
 use crate::Result;
@@ -93,30 +92,21 @@ fn first_named<'d>(
     None
 }
 
-/// The first definition under a keyword at the top that has this name.
-fn named_under<'d>(keyword: &'static str, name: &[u8], root: &'d Value) -> Option<NamedSchema<'d>>
-    ensures { option_map (λ n. view n.schema.now) result ≡ named_under keyword.now name.now (view root.now) }
+/// The definition at the top of a document that has this name.
+fn definition_named<'d>(name: &[u8], root: &'d Value) -> Option<NamedSchema<'d>>
+    ensures { option_map (λ n. view n.schema.now) result ≡ definition_named name.now (view root.now) }
 {
+    let draft = draft_seen(root);
+    let keyword = draft.definitions();
     let Some(Value::Object(definitions)) = root.get(keyword) else {
         return None;
     };
-    let (key, schema) = first_named(draft_seen(root), name, definitions)?;
+    let (key, schema) = first_named(draft, name, definitions)?;
     Some(NamedSchema {
         keyword,
         key,
         schema,
     })
-}
-
-/// The definition at the top that has this name.
-fn definition_named<'d>(name: &[u8], root: &'d Value) -> Option<NamedSchema<'d>>
-    ensures { option_map (λ n. view n.schema.now) result
-        ≡ option_or (named_under (codes "$defs") name.now (view root.now)) (named_under (codes "definitions") name.now (view root.now)) }
-{
-    match named_under("$defs", name, root) {
-        Some(named) => Some(named),
-        None => named_under("definitions", name, root),
-    }
 }
 
 /// What a `$ref` points to in a document that is `#` and this.
