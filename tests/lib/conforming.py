@@ -236,9 +236,8 @@ def drawn_document(draw):
     while stands_for_itself(own):
         own = drawn_object(draw, 3)
     schema = {"$schema": head, "title": "drawn", **own, "$defs": names}
-    if draw.random() < 0.3:
-        schema = by_name(schema, draw.choice(["$anchor", "$dynamicAnchor"]))
-    return in_draft_04(schema) if head == DRAFT_04 else in_2020(schema) if head == HEAD else schema
+    out = in_draft_04(schema) if head == DRAFT_04 else in_2020(schema) if head == HEAD else schema
+    return by_name(out, draw.choice(["$anchor", "$dynamicAnchor"])) if draw.random() < 0.3 else out
 
 
 def by_name(schema, keyword):
