@@ -4,7 +4,8 @@
 
 The packages are fetched by `apt-get download` and unpacked into FOLDER, or into one that is removed afterwards. Of each schema it says
 whether it is read, and if not, why. Of each case of the suite it asks for a counterexample: the value of the case must conform where it is
-shown. A template that fails over a value that conforms must not be accepted. TMPL and TMPL_CHECK name other builds."""
+shown. A template that fails over a value that conforms must not be accepted. Data that conforms must not be reported not to, and data that does
+not must be reported, but by `pattern` and `format`. TMPL and TMPL_CHECK name other builds."""
 import collections
 import json
 import os
@@ -110,6 +111,16 @@ def cases(folder):
                     yield title, DRAFTS[draft], group["schema"], case["data"], case["valid"]
 
 
+def held(room, draft, schema, value):
+    """What is reported of a value as data of a schema: none where nothing is, or whether it is a place at which it does not conform."""
+    for name, content in (("s", {"$schema": draft, **schema} if isinstance(schema, dict) else schema), ("d", value), ("t", "text")):
+        with open(f"{room}/{name}", "w", encoding="utf-8") as it:
+            it.write(content) if name == "t" else json.dump(content, it)
+    ended = subprocess.run([harness.CHECKER, "--schema", "s", "--data", "d", "t"], cwd=room, capture_output=True, timeout=harness.SECONDS, text=True)
+    lines = [line for line in ended.stdout.splitlines() if line.startswith("d:") and ": error: " in line]
+    return any("it is not seen" not in line for line in lines) if lines else None
+
+
 def hold_to_suite(folder, room):
     """Each case of the suite."""
     count = collections.Counter()
@@ -138,6 +149,13 @@ def hold_to_suite(folder, room):
         count["schemas not read"] += not is_read
         if not is_read:
             print(f"not read: {title}: {lines[0]}")
+        reported = held(room, draft, schema, value) if is_read else None
+        is_texts = any(f'"{keyword}"' in json.dumps(schema) for keyword in ("pattern", "format"))
+        count["data reported that does not conform"] += reported is True and not is_valid
+        count["data of which it is not seen"] += reported is False
+        if is_valid and reported or is_read and not is_valid and reported is None and not is_texts:
+            count["WRONG"] += 1
+            print(f"WRONG, {'reported' if is_valid else 'not reported'}: {title}: {json.dumps(schema)} {json.dumps(value)}")
         if is_valid and status == 0:
             count["WRONG"] += 1
             print(f"WRONG, accepted: {title}: {json.dumps(schema)} {json.dumps(value)}")
