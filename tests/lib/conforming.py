@@ -237,7 +237,7 @@ def drawn_document(draw):
         own = drawn_object(draw, 3)
     schema = {"$schema": head, "title": "drawn", **own, "$defs": names}
     out = in_draft_04(schema) if head == DRAFT_04 else in_2020(schema) if head == HEAD else schema
-    return by_name(out, draw.choice(["$anchor", "$dynamicAnchor"])) if draw.random() < 0.3 else out
+    return by_name(out, draw.choice(["$anchor", "$dynamicAnchor"]) if head == HEAD else "$anchor") if draw.random() < 0.3 else out
 
 
 def by_name(schema, keyword):

@@ -3,6 +3,7 @@
 
 use crate::Result;
 use crate::conform::{Conformity, Judge, LEVELS, follow_reference, has_effect, is_property};
+use crate::provenance::below;
 use crate::reference::pointer_to;
 use serde_json::{Map, Value, put};
 use std::alloc::{AllocError, Global};
@@ -39,9 +40,9 @@ struct Step {
 struct Walk<'w> {
     alloc: Global,
     root: &'w Value,
-    /// The way to what is looked at in the value from the top, and in the document as the parts of a JSON Pointer.
+    /// The way to what is looked at in the value from the top, and in the document as a JSON Pointer.
     path: Vec<Step>,
-    way: Vec<String>,
+    way: String,
     found: Vec<Violation>,
     /// How many are wanted at most, and how many parts may still be visited.
     most: usize,
@@ -64,7 +65,7 @@ pub fn violations_of(
         alloc,
         root,
         path: Vec::new(alloc),
-        way: Vec::new(alloc),
+        way: String::new(alloc),
         found: Vec::new(alloc),
         most,
         left: MOST_VISITS,
@@ -108,9 +109,9 @@ impl<'w> Walk<'w> {
     ) -> Result<()> {
         for (keyword, rule) in rules.iter() {
             let name = keyword.as_str();
-            self.way.push(escape(self.alloc, name)?)?;
+            let before = self.go_to(name)?;
             self.visit_rule(levels, schema, name, rule, value)?;
-            let _ = self.way.pop();
+            self.way = before;
         }
         Ok(())
     }
@@ -162,8 +163,7 @@ impl<'w> Walk<'w> {
             return Ok(());
         };
         let fragment = text.strip_prefix('#').unwrap_or("");
-        let pointer = pointer_to(self.alloc, self.root, fragment)?;
-        let way = way_of(self.alloc, pointer.as_str())?;
+        let way = pointer_to(self.alloc, self.root, fragment)?;
         let before = replace(&mut self.way, way);
         self.visit(levels, schema, value)?;
         self.way = before;
@@ -177,9 +177,10 @@ impl<'w> Walk<'w> {
             return Ok(());
         };
         for (index, schema) in schemas.iter().enumerate() {
-            self.way.push(format!(in self.alloc; "{index}")?)?;
+            let index = format!(in self.alloc; "{index}")?;
+            let before = self.go_to(index.as_str())?;
             self.visit(levels, schema, value)?;
-            let _ = self.way.pop();
+            self.way = before;
         }
         Ok(())
     }
@@ -194,11 +195,11 @@ impl<'w> Walk<'w> {
     ) -> Result<()> {
         for (name, member) in members.iter() {
             if let Some(schema) = properties.get(name.as_str()) {
-                self.way.push(escape(self.alloc, name.as_str())?)?;
+                let before = self.go_to(name.as_str())?;
                 self.enter(name.clone()?, false)?;
                 self.visit(levels, schema, member)?;
                 let _ = self.path.pop();
-                let _ = self.way.pop();
+                self.way = before;
             }
         }
         Ok(())
@@ -238,6 +239,12 @@ impl<'w> Walk<'w> {
             let _ = self.path.pop();
         }
         Ok(())
+    }
+
+    /// Goes to a part of the schema that is looked at. Gives the way to that.
+    fn go_to(&mut self, part: &str) -> Result<String> {
+        let way = below(self.alloc, self.way.as_str(), part)?;
+        Ok(replace(&mut self.way, way))
     }
 
     /// Goes to the value of a key, or to an item.
@@ -298,7 +305,7 @@ impl<'w> Walk<'w> {
         }
         let path = names_of(self.alloc, self.path.as_slice())?;
         let place = place_of(self.alloc, self.path.as_slice())?;
-        let keyword = pointer_of(self.alloc, self.way.as_slice())?;
+        let keyword = self.way.clone()?;
         self.found.push(Violation {
             path,
             place,
@@ -384,36 +391,4 @@ fn place_of(alloc: Global, path: &[Step]) -> Result<String> {
         }
     }
     Ok(place)
-}
-
-/// The parts of a JSON Pointer.
-fn way_of(alloc: Global, pointer: &str) -> Result<Vec<String>> {
-    let mut way = Vec::new(alloc);
-    for part in pointer.split('/').skip(1) {
-        way.push(String::from_str(alloc, part)?)?;
-    }
-    Ok(way)
-}
-
-/// The JSON Pointer of these parts.
-fn pointer_of(alloc: Global, way: &[String]) -> Result<String> {
-    let mut pointer = String::new(alloc);
-    for part in way {
-        pointer.push('/')?;
-        pointer.push_str(part.as_str())?;
-    }
-    Ok(pointer)
-}
-
-/// A name as a part of a JSON Pointer.
-fn escape(alloc: Global, name: &str) -> Result<String> {
-    let mut part = String::new(alloc);
-    for letter in name.chars() {
-        match letter {
-            '~' => part.push_str("~0")?,
-            '/' => part.push_str("~1")?,
-            _ => part.push(letter)?,
-        }
-    }
-    Ok(part)
 }
