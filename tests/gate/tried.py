@@ -23,14 +23,14 @@ from tests.lib import harness
 # by crate, the dearest first
 TRIED = {
     "tmpl_engine": (
-        "break_leaves_dot_of_with break_undoes_an_assignment element_costs_no_step every_operand_looked_at fault_told_after_a_failed_write"
-        " no_else_part_below_one short_put_taken_as_whole steps_spent_at_once text_before_fault_dropped variable_refused_for_memory"
+        "break_leaves_dot_of_with break_undoes_an_assignment element_costs_no_step every_operand_looked_at fault_told_after_a_failed_write first_template_run"
+        " no_else_part_below_one short_put_taken_as_whole stack_grown_where_no_text_is_made steps_spent_at_once text_before_fault_dropped variable_refused_for_memory"
         " write_failed_where_none_did"
     ),
-    "tmpl_code": "call_taken_for_a_text entry_of_another_name jump_one_short room_by_the_length_of_the_code weight_above_what_is_held",
+    "tmpl_code": "bound_of_calls_not_looked_at call_taken_for_a_text entry_of_another_name jump_one_short room_by_the_length_of_the_code text_of_the_first_template_alone weight_above_what_is_held",
     "tmpl_syntax": (
         "action_begins_a_byte_late action_right_after_a_brace adjacent_texts_joined blank_replaces_a_body first_part_seen_in_else"
-        " later_action_named name_kept_after_end one_refusal_left_out refuses_every_file second_definition_told_at_the_first set_half_changed"
+        " later_action_named name_kept_after_end one_refusal_left_out refuses_every_file second_definition_told_at_the_first set_changed_after_fault set_half_changed"
     ),
     "tmpl_tool": "data_before_templates file_read_twice second_read_after_failed_read text_put_before_want_of_memory zero_after_failed_write",
     "tmpl_c": "error_over_a_schema_forgiven full_buffer_as_done nothing_copied question_of_another_mode share_that_copies_nothing",
