@@ -26,7 +26,7 @@ use Rattle.tmpl_shape.specs.computed.Shapes.{of_field, entry_shape, field_shape_
 use Rattle.tmpl_shape.specs.computed.Calls.{shape_by_function}
 use Rattle.tmpl_shape.specs.computed.Formats.{printf_shape}
 use Rattle.tmpl_schema.specs.Safe.{Covers}
-use Rattle.tmpl_schema.specs.computed.Check.{absent_field, Known, State, Callee, handed, absent, Table, Checked, variable_shape}
+use Rattle.tmpl_schema.specs.computed.Check.{absent_field, Known, State, Callee, handed, absent, Table, Checked, find_variable}
 use Rattle.tmpl_schema.specs.computed.Check.{alone, text_of, deciding_shape, passing_shape, passed}
 use Rattle.tmpl_schema.specs.computed.Check.{Origin, entry_at, entry_by, operand_origin, pipeline_origin}
 use Rattle.tmpl_schema.specs.computed.Check.{operand_shape, operand_shapes, junction_shape, entry_along, indexed_shape}
@@ -115,7 +115,7 @@ module _ (base : Base) (m : MissingKey) where
   mutual
     operand-keeps : (o : Operand) (k : State) → Keeps (operand_shape base Error k o) (operand_shape base m k o)
     operand-keeps (fields names) k = chain-keeps names k.dot
-    operand-keeps (variable name names) k = same-keeps _ _ (variable_shape name k.env) (chain-keeps names)
+    operand-keeps (variable name names) k = same-keeps _ _ (find_variable name k.env) (λ v. chain-keeps names v.1)
     operand-keeps (group p names) k = then-keeps _ _ _ _ (chain-keeps names) (commands-keep p k None)
     operand-keeps o k = keeps-same (operand_shape base m k o)
 

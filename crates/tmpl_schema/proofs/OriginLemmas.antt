@@ -13,7 +13,7 @@ use Rattle.tmpl_meaning.specs.Pipeline.{chain, field_value, without_null}
 use Rattle.tmpl_meaning.specs.declared.missing_key.MissingKey.{MissingKey}
 use Rattle.tmpl_meaning.specs.declared.missing_key.MissingKey.TheVariants as mode
 use Rattle.tmpl_shape.proofs.ShapeLemmas.{same_name}
-use Rattle.tmpl_schema.specs.computed.Check.{Origin, Tie, untied, valued, keyed, is_path, join_ties, key_tie, owner_of, path_of, rest_of, tie_of, tie_within}
+use Rattle.tmpl_schema.specs.computed.Check.{Origin, Tie, untied, valued, keyed, is_path, join_ties, key_tie, path_of, rest_of, tie_of, tie_within}
 
 -- fields of nothing and of null are nothing or null, and so are those that are missing
 nothing-ends : (m : MissingKey) (ns : List (List ℕ)) (x : Value) → chain m ns nothing ≡ Ok x → is_nothing x ≡ true
@@ -163,11 +163,6 @@ path-has top untied x h = tt
 path-has top (valued ps) x h = h
 path-has top (keyed ps) x h = tt
 
-pub owner-has : (top : Value) (t : Tie) (x : Value) → HasTie top t x → HasTie top (key_tie (owner_of t)) x
-owner-has top untied x h = tt
-owner-has top (valued ps) x h = tt
-owner-has top (keyed ps) x h = h
-
 pub tie_within-has : (top : Value) (t u : Tie) (x : Value) → tie_within t u ≡ true → HasTie top t x → HasTie top u x
 tie_within-has top t untied x e h = tt
 tie_within-has top (valued ps) (valued ns) x e h = subst (λ (qs : List (List ℕ)). IsAt qs top x) (is_path-same ps ns e) h
@@ -197,10 +192,3 @@ pub key-tied : (top : Value) (o : Origin) (v x : Value) → HasOrigin top o v �
 key-tied top None v x h t k = tt
 key-tied top (Some ps) v x h t k =
     λ u at there. subst (λ (w : Value). IsKeyOf w x) (at.0 mode.Error v (h.1 t mode.Error) t) k
-
--- .. and the other way round
-pub is-key : (top : Value) (ps : List (List ℕ)) (v x : Value) → HasTie top (keyed ps) x → IsAt ps top v → is_nothing v ≡ false → IsKeyOf v x
-is-key top ps v x h at there = h v at there
-
-pub path-same : (ps ns : List (List ℕ)) → is_path ps ns ≡ true → ps ≡ ns
-path-same ps ns e = is_path-same ps ns e

@@ -38,9 +38,9 @@ use Rattle.tmpl_schema.specs.computed.Check.{Fact, call_counts, call_fact, comma
 use Rattle.tmpl_schema.specs.computed.Check.{operand_counts, are_constants, is_nil_alone, equal_test, constant_test, pair_fact, compare_fact, turned_fact, piped_fact, tells, narrow_all, narrow_as, narrow_by, narrow_command, narrow_operand, narrow_to}
 use Rattle.tmpl_schema.specs.computed.Check.{are_texts, bounds_of, sliced_shape, call_place, chain_place, index_place, texts_in, deciding_shape, passing_shape, passed, operand_shapes, junction_shape, commands_shape}
 use Rattle.tmpl_schema.specs.computed.Check as check
-use Rattle.tmpl_schema.specs.computed.Check.{Origin, Tie, is_path, key_tie, narrow_from, narrow_root, operand_origin, owner_of, own_entry, path_of, tie_of, tie_within, pipeline_origin, pipeline_place, place_of, place_origin, refine_all, refine_along, refine_from, rest_of, root_origin, variable_origin, variable_owner}
-use Rattle.tmpl_schema.proofs.OriginLemmas.{HasOrigin, HasTie, IsAt, IsKeyOf, at-chain, at-gone, at-joined, at-rest, at-root, is-key, owner-has, path-has, path-same, rest_of-is, tie_within-has, tied, ties-left, ties-right}
-use Rattle.tmpl_schema.specs.computed.Check.{Known, State, variable_shape, assigned_shape, bound_shapes, refine_variable, all_within, is_split, join_all, join_ties, join_parts, join_to, last_of}
+use Rattle.tmpl_schema.specs.computed.Check.{Origin, Tie, keyed, key_tie, narrow_from, narrow_root, operand_origin, own_entry, path_of, tie_of, tie_within, pipeline_origin, pipeline_place, place_of, place_origin, refine_all, refine_along, refine_from, rest_of, root_origin}
+use Rattle.tmpl_schema.proofs.OriginLemmas.{HasOrigin, HasTie, IsAt, IsKeyOf, at-chain, at-gone, at-joined, at-rest, at-root, path-has, rest_of-is, tie_within-has, tied, ties-left, ties-right}
+use Rattle.tmpl_schema.specs.computed.Check.{Known, State, Variable, find_variable, assigned_shape, bound_shapes, refine_variable, all_within, is_split, join_all, join_ties, join_parts, join_to, last_of}
 use Rattle.tmpl_schema.specs.computed.Check.{absent_field, after_both, entry_along, entry_by, operand_shape, indexed_shape, printed_shape, command_shape, pipeline_shape, narrow}
 use Rattle.tmpl_shape.proofs.KindLemmas.{has_kind-has}
 use Rattle.tmpl_shape.proofs.ShapeLemmas.{bytes-turned, same_name, within-has, join-left, join-right}
@@ -368,14 +368,19 @@ module _ (base : Base) (N : Names) (means : Means base.defs N) (top : Value) whe
 
   -- ---- variables
 
-  lookup-gives : (name : List ℕ) (ks : Known) (env : Environment) → HasKnown ks env → (Gives base N means) (variable_shape name ks) (Ok (lookup name env))
-  lookup-gives name [] env h = tt
-  lookup-gives name (k ∷ ks) [] h = absurd h
-  lookup-gives name (k ∷ ks) (v ∷ env) h = rw h.0 (by (bytes_eq k.0 name) (lookup-gives name ks env h.2))
+  -- a variable that is found has its value
+  abbrev IsFound : Option Variable → Value → Type 0
+  IsFound None v = Unit {0}
+  IsFound (Some k) v = HasShape N k.1 v × HasTie top k.2 v
+
+  found-has : (name : List ℕ) (ks : Known) (env : Environment) → HasKnown ks env → IsFound (find_variable name ks) (lookup name env)
+  found-has name [] env h = tt
+  found-has name (k ∷ ks) [] h = absurd h
+  found-has name (k ∷ ks) (v ∷ env) h = rw h.0 (by (bytes_eq k.0 name) (found-has name ks env h.2))
     where
-      by : (b : Bool) → (Gives base N means) (variable_shape name ks) (Ok (lookup name env))
-          → (Gives base N means) (if b then Some k.1 else variable_shape name ks) (Ok (option_map_or (λ v. v.1) (if b then Some (k.0, v.1) else find (λ v. bytes_eq v.0 name) env) nothing))
-      by true more = h.1
+      by : (b : Bool) → IsFound (find_variable name ks) (lookup name env)
+          → IsFound (if b then Some k else find_variable name ks) (option_map_or (λ v. v.1) (if b then Some (k.0, v.1) else find (λ v. bytes_eq v.0 name) env) nothing)
+      by true more = (h.1, h.3)
       by false more = more
 
   assigned-known : (name : List ℕ) (s : Shape) (t : Tie) (x : Value) → HasShape N s x → HasTie top t x → (ks : Known) (env : Environment) → HasKnown ks env
@@ -395,28 +400,6 @@ module _ (base : Base) (N : Names) (means : Means base.defs N) (top : Value) whe
   bound-known (declare name) k s over o e f g j i ks env h = (refl, g, h, tied top o e.1 i)
   bound-known (assign name) k s over o e f g j i ks env h = assigned-known name s (tie_of o) e.1 g (tied top o e.1 i) ks env h
   bound-known (declare_pair key name) k s over o e f g j i ks env h = (refl, g, (refl, f, h, j), tied top o e.1 i)
-
-  origin-has : (name : List ℕ) (ks : Known) (env : Environment) → HasKnown ks env → HasOrigin top (variable_origin name ks) (lookup name env)
-  origin-has name [] [] h = tt
-  origin-has name [] (v ∷ env) h = absurd h
-  origin-has name (k ∷ ks) [] h = absurd h
-  origin-has name (k ∷ ks) (v ∷ env) h = rw h.0 (by (bytes_eq k.0 name) (origin-has name ks env h.2))
-    where
-      by : (b : Bool) → HasOrigin top (variable_origin name ks) (lookup name env)
-          → HasOrigin top (if b then path_of k.2 else variable_origin name ks) (option_map_or (λ v. v.1) (if b then Some (k.0, v.1) else find (λ v. bytes_eq v.0 name) env) nothing)
-      by true more = path-has top k.2 v.1 h.3
-      by false more = more
-
-  owned : (name : List ℕ) (ks : Known) (env : Environment) → HasKnown ks env → HasTie top (key_tie (variable_owner name ks)) (lookup name env)
-  owned name [] [] h = tt
-  owned name [] (v ∷ env) h = absurd h
-  owned name (k ∷ ks) [] h = absurd h
-  owned name (k ∷ ks) (v ∷ env) h = rw h.0 (by (bytes_eq k.0 name) (owned name ks env h.2))
-    where
-      by : (b : Bool) → HasTie top (key_tie (variable_owner name ks)) (lookup name env)
-          → HasTie top (key_tie (if b then owner_of k.2 else variable_owner name ks)) (option_map_or (λ v. v.1) (if b then Some (k.0, v.1) else find (λ v. bytes_eq v.0 name) env) nothing)
-      by true more = owner-has top k.2 v.1 h.3
-      by false more = more
 
   refine-known : (test : Test) (name : List ℕ) (ns : List (List ℕ)) (ks : Known) (env : Environment) → HasKnown ks env
       → Ends test ns (lookup name env) → HasKnown (refine_variable base test name ns ks) env
@@ -459,9 +442,9 @@ module _ (base : Base) (N : Names) (means : Means base.defs N) (top : Value) whe
   -- ---- pipelines
 
   found-gives : (f : Shape → Option Shape) (g : Value → Result Value Cause) → ((s : Shape) (v : Value) → HasShape N s v → (Gives base N means) (f s) (g v))
-      → (o : Option Shape) (v : Value) → (Gives base N means) o (Ok v) → (Gives base N means) (option_and_then f o) (g v)
-  found-gives f g h None v k = tt
-  found-gives f g h (Some s) v k = h s v k
+      → (o : Option Variable) (v : Value) → IsFound o v → (Gives base N means) (option_and_then (λ k. f k.1) o) (g v)
+  found-gives f g h None v i = tt
+  found-gives f g h (Some k) v i = h k.1 v i.0
 
   go-gives : (f : Shape → Option Shape) (g : Value → Given Value) (o : Option Shape) (r : Result Value Cause) (b : Bool) → (Gives base N means) o r
       → ((s : Shape) (v : Value) → r ≡ Ok v → HasShape N s v → (Gives base N means) (f s) (g v).result) → (Gives base N means) (option_and_then f o) (go_on r b g).result
@@ -855,7 +838,11 @@ module _ (base : Base) (N : Names) (means : Means base.defs N) (top : Value) whe
 
   root-has : (k : State) (d : Value) (env : Environment) (root : Option (List ℕ)) → Fits k d env → HasOrigin top (root_origin k root) (root_value d env root)
   root-has k d env None h = h.2
-  root-has k d env (Some name) h = origin-has name k.env env h.1
+  root-has k d env (Some name) h = by (find_variable name k.env) (found-has name k.env env h.1)
+    where
+      by : (o : Option Variable) → IsFound o (lookup name env) → HasOrigin top (option_and_then (λ v. path_of v.2) o) (lookup name env)
+      by None i = tt
+      by (Some v) i = path-has top v.2 (lookup name env) i.1
 
   place-has : (k : State) (d : Value) (env : Environment) (p : check.Place) (v : Value) → Fits k d env → IsAt p.path (root_value d env p.root) v → HasOrigin top (place_origin k p) v
   place-has k d env p v h i = by (root_origin k p.root) (root-has k d env p.root h)
@@ -1434,21 +1421,20 @@ module _ (base : Base) (N : Names) (means : Means base.defs N) (top : Value) whe
     at-gives : (name : List ℕ) (k : State) (from : Origin) (key s : Shape) (w v : Value) → Fits k d env → (operand_value (place m d env) (variable name [])).result ≡ Ok w
         → HasShape N key w → HasShape N s v → HasOrigin top from v → (Gives base N means) (check.entry_at base k (variable name []) from key s) (told (element_at v w))
     at-gives name k None key s w v fits e g h i = entry_by-gives key s w v g h
-    at-gives name k (Some ps) key s w v fits e g h i = by (variable_owner name k.env) (owned name k.env env fits.1)
+    at-gives name k (Some ps) key s w v fits e g h i = by (find_variable name k.env) (found-has name k.env env fits.1)
       where
         here : lookup name env ≡ w
         here = cc
 
-        by : (o : Origin) → HasTie top (key_tie o) (lookup name env)
-            → (Gives base N means) (if option_map_or (is_path ps) o false then own_entry base s else entry_by base key s) (told (element_at v w))
+        by : (o : Option Variable) → IsFound o (lookup name env)
+            → (Gives base N means) (if option_map_or (λ u. tie_within u.2 (keyed ps)) o false then own_entry base s else entry_by base key s) (told (element_at v w))
         by None t = entry_by-gives key s w v g h
-        by (Some qs) t = same (is_path ps qs) refl
+        by (Some u) t = same (tie_within u.2 (keyed ps)) refl
           where
-            same : (b : Bool) → is_path ps qs ≡ b → (Gives base N means) (if b then own_entry base s else entry_by base key s) (told (element_at v w))
+            same : (b : Bool) → tie_within u.2 (keyed ps) ≡ b → (Gives base N means) (if b then own_entry base s else entry_by base key s) (told (element_at v w))
             same false is = entry_by-gives key s w v g h
             same true is =
-                own-gives s v w h (λ there. subst (λ (x : Value). IsKeyOf v x) here
-                (is-key top qs v (lookup name env) t (subst (λ (rs : List (List ℕ)). IsAt rs top v) (path-same ps qs is) i) there))
+                own-gives s v w h (λ there. subst (λ (x : Value). IsKeyOf v x) here (tie_within-has top u.2 (keyed ps) (lookup name env) is t.1 v i there))
 
     junction-step : (is_or : Bool) (o : Operand) (os : Operands) (k : State) (ps : Option Shape) (pv : Option Value) → Fits k d env
         → ((u : State) (s : Shape) (v : Value) → Fits u d env → HasShape N s v → (Gives base N means) (junction_shape base is_or m u s os ps) (junction is_or (place m d env) v os pv).result)
@@ -1476,7 +1462,7 @@ module _ (base : Base) (N : Names) (means : Means base.defs N) (top : Value) whe
       operand-gives dot k fits = fits.0
       operand-gives (fields names) k fits = (chain-gives base N means) m names k.dot d fits.0
       operand-gives (variable name names) k fits =
-          found-gives (chain_shape base (absent_field m) names) (chain m names) ((chain-gives base N means) m names) (variable_shape name k.env) (lookup name env) (lookup-gives name k.env env fits.1)
+          found-gives (chain_shape base (absent_field m) names) (chain m names) ((chain-gives base N means) m names) (find_variable name k.env) (lookup name env) (found-has name k.env env fits.1)
       operand-gives (group p names) k fits =
           go-gives (chain_shape base (absent_field m) names) (λ v. as_given (chain m names v)) (commands_shape base m k p None) (commands_value (place m d env) p None).result
           (commands_value (place m d env) p None).made_text (commands-give p k None None fits tt) (λ s v e. (chain-gives base N means) m names s v)

@@ -5,11 +5,11 @@ ghost use Rattle.std.specs.Prelude.{◌≡◌, IfOk, Some, length, ◌∷◌};
 ghost use Rattle.std.specs.Option.{option_map};
 ghost use Rattle.tmpl_grammar.specs.View.{binding_of};
 ghost use Rattle.tmpl_shape.specs.View.{shape_of};
-ghost use Rattle.tmpl_schema.specs.computed.Check.{after_both, after_parts, all_within, assigned_shape, bound_shapes, holds_loop, join_all, join_parts, join_to};
-ghost use Rattle.tmpl_schema.specs.computed.Check.{last_of, refine_all, refine_along, refine_from, refine_variable, rest_of, variable_origin, variable_owner, variable_shape};
+ghost use Rattle.tmpl_schema.specs.computed.Check.{after_both, after_parts, all_within, assigned_shape, bound_shapes, find_variable, holds_loop, join_all, join_parts, join_to};
+ghost use Rattle.tmpl_schema.specs.computed.Check.{last_of, refine_all, refine_along, refine_from, refine_variable, rest_of};
 ghost use Rattle.tmpl_shape.specs.computed.Shapes.{join};
-ghost use Rattle.tmpl_shape.specs.computed.View.{base_of, shape_seen, test_seen};
-ghost use Rattle.tmpl_schema.specs.computed.View.{is_longer, known_of, known_seen, origin_of, tie_seen};
+ghost use Rattle.tmpl_shape.specs.computed.View.{base_of, test_seen};
+ghost use Rattle.tmpl_schema.specs.computed.View.{is_longer, known_of, known_seen, origin_of, tie_seen, variable_of};
 
 use crate::flow::FallThrough;
 use crate::origin::{Tie, rest_of};
@@ -92,55 +92,17 @@ pub(crate) fn copy_known(known: &Known) -> Result<Known, AllocError>
     }
 }
 
-/// The shape of the newest variable of a name.
-pub(crate) fn variable_shape<'k>(name: &[u8], known: &'k Known) -> Option<&'k Shape>
-    ensures { shape_seen result ≡ variable_shape name.now (known_of known.now) }
+/// The newest variable of a name.
+pub(crate) fn find_variable<'k>(name: &[u8], known: &'k Known) -> Option<&'k Variable>
+    ensures { option_map (λ v. variable_of v.now) result ≡ find_variable name.now (known_of known.now) }
 {
     match known {
         Known::Empty => None,
         Known::More(newest) => {
             if newest.name.as_slice() == name {
-                Some(&newest.shape)
+                Some(newest)
             } else {
-                variable_shape(name, &newest.older)
-            }
-        }
-    }
-}
-
-/// The provenance of the newest variable of a name.
-pub(crate) fn variable_origin<'k>(name: &[u8], known: &'k Known) -> Option<&'k [Bytes]>
-    ensures { option_map (λ p. p.now) result ≡ variable_origin name.now (known_of known.now) }
-{
-    match known {
-        Known::Empty => None,
-        Known::More(newest) => {
-            if newest.name.as_slice() == name {
-                match &newest.tie {
-                    Tie::Valued(path) => Some(path.as_slice()),
-                    Tie::Untied | Tie::Keyed(_) => None,
-                }
-            } else {
-                variable_origin(name, &newest.older)
-            }
-        }
-    }
-}
-
-/// The provenance of what the newest variable of a name is an index or a key of.
-pub(crate) fn variable_owner<'k>(name: &[u8], known: &'k Known) -> Option<&'k [Bytes]>
-    ensures { option_map (λ p. p.now) result ≡ variable_owner name.now (known_of known.now) }
-{
-    match known {
-        Known::Empty => None,
-        Known::More(newest) => {
-            if newest.name.as_slice() == name {
-                match &newest.tie {
-                    Tie::Keyed(path) => Some(path.as_slice()),
-                    Tie::Untied | Tie::Valued(_) => None,
-                }
-            } else {
-                variable_owner(name, &newest.older)
+                find_variable(name, &newest.older)
             }
         }
     }

@@ -15,7 +15,7 @@ use crate::facts::{
     pipeline_place, place_of,
 };
 use crate::known::{
-    Known, copy_known, put_variable, refine_all, refine_from, refine_variable, variable_origin,
+    Known, copy_known, find_variable, put_variable, refine_all, refine_from, refine_variable,
 };
 use crate::origin::{Tie, copy_origin, join_paths, place_path};
 use std::alloc::{AllocError, Global};
@@ -69,7 +69,10 @@ fn root_origin<'s>(state: &'s State, root: Option<&[u8]>) -> Option<&'s [Bytes]>
         ≡ root_origin (state_of state.now) (option_map (λ name. name.now) root.entry) }
 {
     match root {
-        Some(name) => variable_origin(name, &state.known),
+        Some(name) => match &find_variable(name, &state.known)?.tie {
+            Tie::Valued(path) => Some(path.as_slice()),
+            Tie::Untied | Tie::Keyed(_) => None,
+        },
         None => match &state.origin {
             Some(path) => Some(path.as_slice()),
             None => None,

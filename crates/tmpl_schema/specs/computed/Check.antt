@@ -2,6 +2,7 @@
 use Rattle.std.specs.Prelude.{ℕ, zero, suc, pos, ◌+◌, ◌-◌, ◌==◌, nat_le, Bool, true, false, not, ◌&&◌, ◌||◌, List, [], ◌∷◌, ◌++◌, length, drop}
 use Rattle.std.specs.Prelude.{Option, Some, None, option_to_list, unwrap_or, if◌then◌else◌}
 use Rattle.std.specs.Option.{option_map, option_map_or, option_and_then}
+use Rattle.std.specs.List.{find}
 use Rattle.std.specs.Str.{bytes_eq}
 use Rattle.tmpl_grammar.specs.Tree.{Operand, dot, fields, variable, bool_constant, number_constant, text_constant, nil}
 use Rattle.tmpl_grammar.specs.Tree.{function, group, Operands, no_operand, operand, Pipeline, no_command, command}
@@ -45,30 +46,21 @@ abbrev pub key_tie : Origin → Tie
 key_tie None = untied
 key_tie (Some ps) = keyed ps
 
--- the chain at which its value is, and that of which it is an index or a key
+-- the chain at which its value is
 abbrev pub path_of : Tie → Origin
 path_of (valued ps) = Some ps
 path_of t = None
 
-abbrev pub owner_of : Tie → Origin
-owner_of (keyed ps) = Some ps
-owner_of t = None
+-- a variable: its name, its shape and its tie
+abbrev pub Variable : Type 0
+Variable = List ℕ × Shape × Tie
 
--- the variables in scope, each with its shape and its tie, the newest first
+-- the variables in scope, the newest first, and the newest of a name
 abbrev pub Known : Type 0
-Known = List (List ℕ × Shape × Tie)
+Known = List Variable
 
-abbrev pub variable_shape : List ℕ → Known → Option Shape
-variable_shape name [] = None
-variable_shape name (k ∷ ks) = if bytes_eq k.0 name then Some k.1 else variable_shape name ks
-
-abbrev pub variable_origin : List ℕ → Known → Origin
-variable_origin name [] = None
-variable_origin name (k ∷ ks) = if bytes_eq k.0 name then path_of k.2 else variable_origin name ks
-
-abbrev pub variable_owner : List ℕ → Known → Origin
-variable_owner name [] = None
-variable_owner name (k ∷ ks) = if bytes_eq k.0 name then owner_of k.2 else variable_owner name ks
+abbrev pub find_variable : List ℕ → Known → Option Variable
+find_variable name ks = find (λ k. bytes_eq k.0 name) ks
 
 abbrev pub assigned_shape : List ℕ → Shape → Tie → Known → Known
 assigned_shape name s t [] = []
@@ -336,7 +328,7 @@ pub record State : Type 0 where
 
 -- where the value of a place is from
 abbrev pub root_origin : State → Option (List ℕ) → Origin
-root_origin k root = option_map_or (λ name. variable_origin name k.env) root k.from
+root_origin k root = option_map_or (λ name. option_and_then (λ v. path_of v.2) (find_variable name k.env)) root k.from
 
 abbrev pub place_origin : State → Place → Origin
 place_origin k p = option_map (λ ps. ps ++ p.path) (root_origin k p.root)
@@ -362,7 +354,7 @@ operand_origin k o = option_and_then (place_origin k) (place_of o)
 
 -- an operand is a variable that is an index or a key of what is at this chain
 abbrev pub is_index : State → Operand → Origin → Bool
-is_index k (variable name []) (Some ps) = option_map_or (is_path ps) (variable_owner name k.env) false
+is_index k (variable name []) (Some ps) = option_map_or (λ v. tie_within v.2 (keyed ps)) (find_variable name k.env) false
 is_index k o from = false
 
 -- what is known of a template that is called: the shape of what it is handed, or that it is not there
@@ -571,7 +563,7 @@ module _ (base : Base) where
     pub operand_shape : MissingKey → State → Operand → Option Shape
     operand_shape m k dot = Some k.dot
     operand_shape m k (fields names) = chain_shape base (absent_field m) names k.dot
-    operand_shape m k (variable name names) = option_and_then (chain_shape base (absent_field m) names) (variable_shape name k.env)
+    operand_shape m k (variable name names) = option_and_then (λ v. chain_shape base (absent_field m) names v.1) (find_variable name k.env)
     operand_shape m k (bool_constant c) = Some (exactly (constant.Bool c))
     operand_shape m k (number_constant n) = Some numbers
     operand_shape m k (text_constant bytes) = Some (text_shape bytes)

@@ -15,7 +15,7 @@ use Rattle.tmpl_schema.specs.declared.facts.Head as held_head
 use Rattle.tmpl_schema.specs.declared.facts.Head.TheVariants as head
 use Rattle.tmpl_schema.specs.declared.facts.Place as held_place
 use Rattle.tmpl_schema.specs.computed.Check.{Fact, Head, calls, is_nil, is_value, Place, texts_in}
-use Rattle.tmpl_schema.specs.computed.Check.{Known, Origin, Tie, untied, valued, keyed, State, After, Callee, Table, handed, absent, past, operand_shapes, after_choice, after_nodes}
+use Rattle.tmpl_schema.specs.computed.Check.{Known, Variable, Origin, Tie, untied, valued, keyed, State, After, Callee, Table, handed, absent, past, operand_shapes, after_choice, after_nodes}
 use Rattle.tmpl_schema.specs.computed.Check.{after_range, fall_through, past_parts, bound_shapes, call_state, command_call, counts_in, narrow_all, narrow_as, piped_fact, pipeline_origin, pipeline_shape, turn_known}
 use Rattle.tmpl_grammar.specs.Tree.{Header}
 use Rattle.tmpl_syntax.specs.Tree.{Nodes}
@@ -36,6 +36,8 @@ use Rattle.tmpl_schema.specs.declared.origin.Tie as held_tie
 use Rattle.tmpl_schema.specs.declared.origin.Tie.TheVariants as tie
 use Rattle.tmpl_schema.specs.declared.known.Known.{fold-Known}
 use Rattle.tmpl_schema.specs.declared.known.Known.TheOpen.{Known-F, Variable-F}
+use Rattle.tmpl_schema.specs.declared.known.Variable as held_variable
+use Rattle.tmpl_schema.specs.declared.known.Variable.{out-Variable}
 use Rattle.tmpl_schema.specs.declared.pipeline.Context as held_context
 use Rattle.tmpl_schema.specs.declared.state.State as held_state
 
@@ -46,6 +48,9 @@ abbrev pub tie_seen : held_tie.Tie → Tie
 tie_seen (tie.Valued path) = valued path.items
 tie_seen (tie.Keyed path) = keyed path.items
 tie_seen tie.Untied = untied
+
+abbrev pub variable_of : held_variable.Variable → Variable
+variable_of v = let held = out-Variable v in (held.name, shape_of held.shape.value, tie_seen held.tie)
 
 abbrev pub known_step : Known-F Known Known → Known
 known_step Known-F.Empty = []
