@@ -1,5 +1,5 @@
 -- For code on controls: what is known after one, by what is known after its parts.
-use Rattle.std.proofs.Common.{rules, ◌≡◌, true, Option, Some, None, refl, subst}
+use Rattle.std.proofs.Common.{rules, ◌≡◌, true, false, Option, Some, None, refl, subst}
 use Rattle.tmpl_grammar.specs.Tree.{Header}
 use Rattle.tmpl_grammar.specs.declared.tree.Control.{Control}
 use Rattle.tmpl_grammar.specs.View.{header_of}
@@ -11,12 +11,12 @@ use Rattle.tmpl_syntax.specs.declared.tree.ControlNode.{ControlNode, out-Control
 use Rattle.tmpl_meaning.specs.declared.missing_key.MissingKey.{MissingKey}
 use Rattle.tmpl_shape.specs.Shape.{Shape}
 use Rattle.tmpl_shape.specs.computed.Shapes.{Base, Visit, visit_of}
-use Rattle.tmpl_schema.specs.computed.Check.{After, Known, Origin, State, Table, end_parts, past, past_parts, after_node, after_nodes, at_head, fall_through, holds_loop, in_body, in_other, settle_soon, pipeline_origin, pipeline_shape}
+use Rattle.tmpl_schema.specs.computed.Check.{After, Known, Origin, State, Table, end_parts, past, past_parts, after_node, after_nodes, at_head, fall_through, holds_loop, in_body, in_part, settle_soon, pipeline_origin, pipeline_shape}
 use Rattle.tmpl_schema.specs.computed.View.{after_choice_by, after_range_by, turn_by}
 
 module _ (base : Base) (m : MissingKey) (table : Table) (loop : Option Known) (h : Header) (k : State) (body other : Nodes) where
   pub choice-after : (c : Control) (s : Shape) (one two a : After) → after_nodes base m table loop None (in_body base c h k s) body ≡ Some one
-      → after_nodes base m table loop None (in_other base h k s) other ≡ Some two
+      → after_nodes base m table loop None (in_part base false h k s) other ≡ Some two
       → end_parts base (fall_through table body other) k.env one two ≡ Some a → after_choice_by base m table loop c h k body other s ≡ Some a
   choice-after c s one two a is_one is_two e = rw (is_one, is_two) e
 

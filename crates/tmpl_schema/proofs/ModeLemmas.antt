@@ -32,7 +32,7 @@ use Rattle.tmpl_schema.specs.computed.Check.{Origin, entry_at, entry_by, operand
 use Rattle.tmpl_schema.specs.computed.Check.{operand_shape, operand_shapes, junction_shape, entry_along, indexed_shape}
 use Rattle.tmpl_schema.specs.computed.Check.{sliced_shape, printed_shape, command_shape, commands_shape, pipeline_shape}
 use Rattle.tmpl_schema.specs.computed.Check.{After, all_within, end_parts, join_all, join_left, past, settle_known, settle_soon, with_left, last_of}
-use Rattle.tmpl_schema.specs.computed.Check.{leave_with, holds_loop, turn_known, in_body, in_other, at_start, is_safe}
+use Rattle.tmpl_schema.specs.computed.Check.{leave_with, holds_loop, turn_known, in_body, in_part, at_start, is_safe}
 use Rattle.tmpl_schema.specs.computed.Check.{at_head, after_choice, after_range, after_control, after_call}
 use Rattle.tmpl_schema.specs.computed.Check.{after_node, after_nodes, dot_after, past_parts}
 use Rattle.tmpl_schema.specs.declared.flow.FallThrough.{FallThrough}
@@ -203,7 +203,7 @@ module _ (base : Base) where
         → Keeps (after_choice base w c h k f other s) (after_choice base w c h k g rest s)
     choice-keeps w c f g other rest in_f in_rest s =
         then-keeps _ _ _ _ (λ a. then-keeps _ _ _ _ (λ b. keeps-same (end_parts base w k.env a b))
-        (in_rest (in_other base h k s))) (in_f (in_body base c h k s))
+        (in_rest (in_part base false h k s))) (in_f (in_body base c h k s))
 
     range-keeps : (w : FallThrough) (f g : Option Known → Checked) (other rest : Checked) → ((l : Option Known) → KeepsEach (f l) (g l))
         → KeepsEach other rest → (v : Visit) → Keeps (after_range base w h k f other v) (after_range base w h k g rest v)

@@ -32,11 +32,11 @@ use Rattle.tmpl_schema.specs.Safe.{MayEnd}
 use Rattle.tmpl_shape.specs.computed.Means.{Means}
 use Rattle.tmpl_shape.specs.computed.Shapes.{Base, within, fill, Visit, visit_of}
 use Rattle.tmpl_schema.specs.computed.Check.{After, Known, State, Callee, handed, absent, past, Table, Checked, last_of, all_within, join_all, join_left, settle_known, settle_soon, leave_with, with_left}
-use Rattle.tmpl_schema.specs.computed.Check.{holds_loop, dot_in, in_body, in_other, after_choice, at_head, in_turn, turn_known, after_range, after_call, after_control, after_node, after_nodes}
+use Rattle.tmpl_schema.specs.computed.Check.{holds_loop, dot_in, in_body, in_part, after_choice, at_head, in_turn, turn_known, after_range, after_call, after_control, after_node, after_nodes}
 use Rattle.tmpl_schema.specs.declared.flow.FallThrough.{FallThrough}
 use Rattle.tmpl_schema.specs.declared.flow.FallThrough.TheVariants.{Both, Body, Other}
 use Rattle.tmpl_schema.specs.computed.Check.{after_parts, end_parts, dot_after, dot_by, is_absent, diverges, any_diverges, fall_through, past_parts}
-use Rattle.tmpl_schema.specs.computed.Check.{Origin, key_tie, pipeline_origin, pipeline_shape, narrow, bound_shapes, at_start, is_safe}
+use Rattle.tmpl_schema.specs.computed.Check.{Origin, key_tie, pipeline_origin, pipeline_shape, narrow, bind_value, bound_shapes, at_start, is_safe}
 use Rattle.tmpl_schema.specs.computed.Safe.{IsAccepted, IsCallee, IsChecked}
 use Rattle.tmpl_loops.specs.Form.{Loop, Turn, stopped, turn_of}
 use Rattle.tmpl_loops.specs.Law.{EndsWith, IsLoop, IsTurn, MayFault, copied_by}
@@ -44,7 +44,7 @@ use Rattle.tmpl_loops.proofs.CopyLemmas.{calls_copy}
 use Rattle.tmpl_schema.proofs.LoopLemmas.{found-loop}
 use Rattle.tmpl_shape.proofs.ShapeLemmas.{within-has}
 use Rattle.tmpl_schema.proofs.FieldLemmas.{Gives, Each, IsVisit, Visits, fill-has, visit-gives}
-use Rattle.tmpl_schema.proofs.VariableLemmas.{above-zero, HasKnown, Fits, place, known-length, last-known, last-last, within-known, joined-left, joined-right, both-known, bound-known}
+use Rattle.tmpl_schema.proofs.VariableLemmas.{above-zero, HasKnown, Fits, place, known-length, last-known, last-last, within-known, joined-left, joined-right, both-known, bound-known, value-known}
 use Rattle.tmpl_schema.proofs.VariableLemmas.{pipeline-gives, pipeline-has, narrow-fits}
 use Rattle.tmpl_schema.proofs.OriginLemmas.{HasOrigin, HasTie, IsKeyOf, at-root, key-tied}
 
@@ -309,10 +309,10 @@ module _ (base : Base) (N : Names) (means : Means base.defs N) (stops : List (Li
       → Ends loop out (scoped (length r.env) (one_of (truth v) (body (dot_value c v d)) (other d) (with_bound h.binding (without_key v) (record r { made_text = made }))))
   choice-ends w c h k loop f g body other sh out is holds in_f in_g never m d r fits v made value has =
       option_and_then_some _ (f (in_body base c h k sh)) out is (λ a isa rest.
-      option_and_then_some (end_parts base w k.env a) (g (in_other base h k sh)) out rest (λ b isb joint.
+      option_and_then_some (end_parts base w k.env a) (g (in_part base false h k sh)) out rest (λ b isb joint.
       let p = ends-of w k.env a b out joint in by (truth v) refl a isa b isb p.0 p.1))
     where
-      by : (t : Bool) → truth v ≡ t → (a : After) → f (in_body base c h k sh) ≡ Some a → (b : After) → g (in_other base h k sh) ≡ Some b
+      by : (t : Bool) → truth v ≡ t → (a : After) → f (in_body base c h k sh) ≡ Some a → (b : After) → g (in_part base false h k sh) ≡ Some b
           → after_parts base w k.env a.env b.env ≡ Some out.env → join_left base a.left b.left ≡ Some out.left
           → Ends loop out (scoped (length r.env) (one_of t (body (dot_value c v d)) (other d) (with_bound h.binding (without_key v) (record r { made_text = made }))))
       by true t a isa b isb joint left =
@@ -326,7 +326,7 @@ module _ (base : Base) (N : Names) (means : Means base.defs N) (stops : List (Li
           (body-known w k.env a.env b.env out.env joint body other never (dot_value c v d) q)
           (in_f (in_body base c h k sh) a isa (dot_value c v d) q (
             dot-has c (fill base sh) (narrow base true h.pipeline k).dot v d full n.0,
-            (bound-known base N means top) h.binding nothings (fill base sh) None o (without_key v) tt full tt from (narrow base true h.pipeline k).env r.env n.1,
+            (value-known base N means top) h.binding (fill base sh) o v full from (narrow base true h.pipeline k).env r.env n.1,
             dot-from c o (narrow base true h.pipeline k).from v d from n.2,
           ))
       by false t a isa b isb joint left =
@@ -337,8 +337,7 @@ module _ (base : Base) (N : Names) (means : Means base.defs N) (stops : List (Li
           let x = other d q in
           scope-ends loop k.env b out r.env fits.1 holds x.1 x.0.env (left-second loop a.left b.left out.left left)
           (other-known w k.env a.env b.env out.env joint body other never d q)
-          (in_g (in_other base h k sh) b isb d q
-          (n.0, (bound-known base N means top) h.binding nothings sh None o (without_key v) tt has tt from (narrow base false h.pipeline k).env r.env n.1, n.2))
+          (in_g (in_part base false h k sh) b isb d q (n.0, (value-known base N means top) h.binding sh o v has from (narrow base false h.pipeline k).env r.env n.1, n.2))
 
   -- ---- ranges
 
@@ -548,15 +547,13 @@ module _ (base : Base) (N : Names) (means : Means base.defs N) (stops : List (Li
   -- ---- nodes
 
   module _ (s : Setting) (table : Table) (calls : (CallsHave base N means stops) table s.calls) where
-    shown-ends : (h : Header) (k : State) (loop : Option Known) (sh : Shape) (o : Origin) (v : Value) (r : Run) → (HasKnown base N means top) k.env r.env → HasShape N sh v
-        → HasOrigin top o v → Ends loop (past (bound_shapes h.binding nothings sh None o k.env)) (show h.binding v r)
-    shown-ends h k loop sh o v r known has from = by h.binding
+    shown-ends : (h : Header) (k : State) (loop : Option Known) (sh : Shape) (v : Value) (r : Run) → (HasKnown base N means top) k.env r.env → HasShape N sh v
+        → HasOrigin top (pipeline_origin k h.pipeline) v → Ends loop (past (bind_value h k sh k.env)) (show h.binding v r)
+    shown-ends h k loop sh v r known has from = by h.binding
       where
-        by : (b : Binding) → Ends loop (past (bound_shapes b nothings sh None o k.env)) (show b v r)
+        by : (b : Binding) → Ends loop (past (bound_shapes b nothings sh None (pipeline_origin k h.pipeline) k.env)) (show b v r)
         by unbound = known
-        by (declare name) = (bound-known base N means top) (declare name) nothings sh None o (without_key v) tt has tt from k.env r.env known
-        by (assign name) = (bound-known base N means top) (assign name) nothings sh None o (without_key v) tt has tt from k.env r.env known
-        by (declare_pair key name) = (bound-known base N means top) (declare_pair key name) nothings sh None o (without_key v) tt has tt from k.env r.env known
+        by b = (value-known base N means top) b sh (pipeline_origin k h.pipeline) v has from k.env r.env known
 
     left-ends : (loop : Option Known) (ks : Known) (out : After) (env : Environment) → leave_with ks loop ≡ Some out → (HasKnown base N means top) ks env → InLoop loop out.left env
     left-ends None ks out env e k = cc
@@ -747,11 +744,10 @@ module _ (base : Base) (N : Names) (means : Means base.defs N) (stops : List (Li
       stepped-ends (text bytes) line loop k out is d r fits =
           let same : past k.env ≡ out = cc in subst (λ (x : After). (HasKnown base N means top) x.env r.env) same fits.1
       stepped-ends (action h) line loop k out is d r fits =
-          let o = pipeline_origin k h.pipeline in
-          let p = mapped_some (pipeline_shape base s.rules.missing_key k h.pipeline) (λ sh. past (bound_shapes h.binding nothings sh None o k.env)) out is in
+          let p = mapped_some (pipeline_shape base s.rules.missing_key k h.pipeline) (λ sh. past (bind_value h k sh k.env)) out is in
           subst (λ (x : After). Ends loop x (with_pipeline s line h.pipeline d (show h.binding) r)) p.2
-          (pipeline-all (Ends loop (past (bound_shapes h.binding nothings p.0 None o k.env))) s line h.pipeline d (show h.binding) k p.0 r fits p.1
-          (λ v made value has. shown-ends h k loop p.0 o v (record r { made_text = made }) fits.1 has
+          (pipeline-all (Ends loop (past (bind_value h k p.0 k.env))) s line h.pipeline d (show h.binding) k p.0 r fits p.1
+          (λ v made value has. shown-ends h k loop p.0 v (record r { made_text = made }) fits.1 has
           ((pipeline-has base N means top) s.rules.missing_key h.pipeline k d r.env v fits value)))
       stepped-ends (control_node c h body other) line loop k out is d r fits =
           let m = s.rules.missing_key in

@@ -401,6 +401,11 @@ module _ (base : Base) (N : Names) (means : Means base.defs N) (top : Value) whe
   bound-known (assign name) k s over o e f g j i ks env h = assigned-known name s (tie_of o) e.1 g (tied top o e.1 i) ks env h
   bound-known (declare_pair key name) k s over o e f g j i ks env h = (refl, g, (refl, f, h, j), tied top o e.1 i)
 
+  -- .. to a value that is no element
+  pub value-known : (b : Binding) (s : Shape) (o : Origin) (v : Value) → HasShape N s v → HasOrigin top o v → (ks : Known) (env : Environment) → HasKnown ks env
+      → HasKnown (bound_shapes b nothings s None o ks) (bind b (nothing, v) env)
+  value-known b s o v g i ks env h = bound-known b nothings s None o (nothing, v) tt g tt i ks env h
+
   refine-known : (test : Test) (name : List ℕ) (ns : List (List ℕ)) (ks : Known) (env : Environment) → HasKnown ks env
       → Ends test ns (lookup name env) → HasKnown (refine_variable base test name ns ks) env
   refine-known test name ns [] [] h e = tt

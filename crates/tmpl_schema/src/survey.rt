@@ -9,7 +9,7 @@ use crate::failure::{Doubt, Failure, Position};
 use crate::flow::{FallThrough, dot_after, fall_through, past_parts};
 use crate::known::{Bound, Known, after_parts, bind, copy_known};
 use crate::loops::check_loop;
-use crate::node::{Checker, Turns, after_node, at_head, in_body, in_other, in_turn, settle_soon};
+use crate::node::{Checker, Turns, after_node, at_head, in_body, in_part, in_turn, settle_soon};
 use crate::room::first_crowded;
 use crate::state::{State, at_start, copy_state, pipeline_origin};
 use crate::table::{Call, Callee, Entry};
@@ -248,7 +248,7 @@ fn survey_choice(
     let base = &walk.checker.base;
     let inside = in_body(base, control.control, &control.header, state, shape)?;
     let one = survey_nodes(walk, head, inside, control.body.as_slice(), found)?;
-    let outside = in_other(base, &control.header, state, shape)?;
+    let outside = in_part(base, false, &control.header, state, shape)?;
     let other = survey_nodes(walk, head, outside, control.other.as_slice(), found)?;
     let through = fall_through(
         walk.checker,

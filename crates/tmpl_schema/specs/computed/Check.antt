@@ -417,6 +417,10 @@ abbrev pub past_parts : Control → Table → Nodes → Nodes → FallThrough
 past_parts control.Range table body other = if any_diverges table other then Body else Both
 past_parts c table body other = fall_through table body other
 
+-- the variables, where a header binds them to its value, which has this shape
+abbrev pub bind_value : Header → State → Shape → Known → Known
+bind_value h k s ks = bound_shapes h.binding nothings s None (pipeline_origin k h.pipeline) ks
+
 -- where a turn of a range begins
 abbrev pub in_turn : Header → Visit → Origin → Known → State
 in_turn h v over ks = record { dot = v.element; from = None; env = bound_shapes h.binding v.key v.element over None ks }
@@ -674,16 +678,15 @@ module _ (base : Base) where
   abbrev pub turn_known : Header → Visit → Origin → (Option Known → Checked) → Known → Option Known
   turn_known h v over body ks = option_and_then (λ a. with_left (last_of (length ks) a.env) a.left) (body (Some ks) (in_turn h v over ks))
 
-  -- where an `if` or a `with` goes on with its body, and with its other part
+  -- where an `if` or a `with` whose value is not empty, or else is, goes on with a part, in which it has this shape
+  abbrev pub in_part : Bool → Header → State → Shape → State
+  in_part c h k s = let u = narrow c h.pipeline k in record u { env = bind_value h k s u.env }
+
+  -- .. with its body
   abbrev pub in_body : Control → Header → State → Shape → State
   in_body c h k s =
-      let u = narrow true h.pipeline k in
-      let o = pipeline_origin k h.pipeline in
-      record { dot = dot_in c (fill base s) u.dot; from = dot_in c o u.from; env = bound_shapes h.binding nothings (fill base s) None o u.env }
-
-  abbrev pub in_other : Header → State → Shape → State
-  in_other h k s =
-      let u = narrow false h.pipeline k in record u { env = bound_shapes h.binding nothings s None (pipeline_origin k h.pipeline) u.env }
+      let u = in_part true h k (fill base s) in
+      record u { dot = dot_in c (fill base s) u.dot; from = dot_in c (pipeline_origin k h.pipeline) u.from }
 
   -- .. of which a run may come past these
   abbrev pub after_parts : FallThrough → Known → Known → Known → Option Known
@@ -698,7 +701,7 @@ module _ (base : Base) where
 
   abbrev pub after_choice : FallThrough → Control → Header → State → Checked → Checked → Shape → Option After
   after_choice w c h k body other s =
-      option_and_then (λ a. option_and_then (end_parts w k.env a) (other (in_other h k s))) (body (in_body c h k s))
+      option_and_then (λ a. option_and_then (end_parts w k.env a) (other (in_part false h k s))) (body (in_body c h k s))
 
   -- what is known of dot after them
   abbrev pub dot_by : FallThrough → Pipeline → State → Shape
@@ -735,7 +738,7 @@ module _ (base : Base) where
     pub after_node : MissingKey → Table → Option Known → State → NodeKind → Option After
     after_node m table loop k (text bytes) = Some (past k.env)
     after_node m table loop k (action h) =
-        option_map (λ s. past (bound_shapes h.binding nothings s None (pipeline_origin k h.pipeline) k.env)) (pipeline_shape m k h.pipeline)
+        option_map (λ s. past (bind_value h k s k.env)) (pipeline_shape m k h.pipeline)
     after_node m table loop k (control_node c h body other) =
         if holds_loop loop k.env then option_and_then
         (after_control (past_parts c table body other) c loop h k (λ l u. after_nodes m table l None u body) (λ u. after_nodes m table loop None u other))
