@@ -1,5 +1,5 @@
 -- For the law `runs_safely`: chains of fields, and the values at their ends, whatever the mode for missing keys.
-use Rattle.std.proofs.Common.{◌≡◌, ◌∙◌, ◌++◌, ◌<◌, Bool, true, false, List, [], ◌∷◌, length, ℕ, Some, None, IsSome, Result, Ok, Err, ap, refl, sym, subst, if◌then◌else◌}
+use Rattle.std.proofs.Common.{◌≡◌, ◌∙◌, ◌++◌, ◌<◌, ◌⊎◌, inl, inr, Bool, true, false, List, [], ◌∷◌, length, ℕ, Some, None, IsSome, Result, Ok, Err, ap, refl, sym, subst, if◌then◌else◌}
 use Rattle.std.specs.Prelude.{pos}
 use Rattle.tmpl_values.specs.Elements.{values_of_items}
 use Rattle.std.proofs.lemmas.Bool.{false≢true, and_parts}
@@ -173,19 +173,15 @@ tie_within-has top untied (keyed ns) x e h = absurd (false≢true e)
 tie_within-has top (valued ps) (keyed ns) x e h = absurd (false≢true e)
 
 -- what is known of one of two is known of both
-pub ties-left : (top : Value) (t u : Tie) (x : Value) → HasTie top t x → HasTie top (join_ties t u) x
-ties-left top t u x h = by (tie_within t u) refl
+pub ties-has : (top : Value) (t u : Tie) (x : Value) → HasTie top t x ⊎ HasTie top u x → HasTie top (join_ties t u) x
+ties-has top t u x h = by (tie_within t u) refl
   where
     by : (b : Bool) → tie_within t u ≡ b → HasTie top (if b then u else untied) x
-    by true e = tie_within-has top t u x e h
+    by true e = elim h [
+      | inl y ↦ tie_within-has top t u x e y
+      | inr y ↦ y
+    ]
     by false e = tt
-
-pub ties-right : (top : Value) (t u : Tie) (x : Value) → HasTie top u x → HasTie top (join_ties t u) x
-ties-right top t u x h = by (tie_within t u)
-  where
-    by : (b : Bool) → HasTie top (if b then u else untied) x
-    by true = h
-    by false = tt
 
 -- an index or a key of a value at a chain is one of what is there
 pub key-tied : (top : Value) (o : Origin) (v x : Value) → HasOrigin top o v → is_nothing v ≡ false → IsKeyOf v x → HasTie top (key_tie o) x

@@ -2,7 +2,7 @@
 -- shapes that are computed.
 use Rattle.std.specs.Prelude.{◌++◌, ℤ, pos, not, Contains}
 use Rattle.std.specs.Ordering.{int_eq}
-use Rattle.std.proofs.Common.{inl, inr, rules, ◌≡◌, ◌-◌, ◌≤◌, ◌||◌, ℕ, zero, suc, nat_eq, Bool, true, false, List, [], ◌∷◌, Option, Some, None, Result, Ok, Err, IfSome, IsSome, arith, ◌+◌, length, map, ap, refl, sym, subst, ◌∙◌, if◌then◌else◌}
+use Rattle.std.proofs.Common.{◌⊎◌, inl, inr, rules, ◌≡◌, ◌-◌, ◌≤◌, ◌||◌, ℕ, zero, suc, nat_eq, Bool, true, false, List, [], ◌∷◌, Option, Some, None, Result, Ok, Err, IfSome, IsSome, arith, ◌+◌, length, map, ap, refl, sym, subst, ◌∙◌, if◌then◌else◌}
 use Rattle.std.proofs.lemmas.Bool.{false≢true}
 use Rattle.std.proofs.lemmas.Bool.Decides.{Decides-int_eq}
 use Rattle.std.proofs.lemmas.Slice.Eq.{bytes_eq-Decides}
@@ -44,7 +44,7 @@ use Rattle.tmpl_loops.proofs.CopyLemmas.{calls_copy}
 use Rattle.tmpl_schema.proofs.LoopLemmas.{found-loop}
 use Rattle.tmpl_shape.proofs.ShapeLemmas.{within-has}
 use Rattle.tmpl_schema.proofs.FieldLemmas.{Gives, Each, IsVisit, Visits, fill-has, visit-gives}
-use Rattle.tmpl_schema.proofs.VariableLemmas.{above-zero, HasKnown, Fits, place, known-length, last-known, last-last, within-known, joined-left, joined-right, both-known, bound-known, value-known}
+use Rattle.tmpl_schema.proofs.VariableLemmas.{above-zero, HasKnown, Fits, place, known-length, last-known, last-last, within-known, joined-has, both-known, bound-known, value-known}
 use Rattle.tmpl_schema.proofs.VariableLemmas.{pipeline-gives, pipeline-has, narrow-fits}
 use Rattle.tmpl_schema.proofs.OriginLemmas.{HasOrigin, HasTie, IsKeyOf, at-root, key-tied}
 
@@ -178,21 +178,15 @@ module _ (base : Base) (N : Names) (means : Means base.defs N) (stops : List (Li
   Ends loop a q = EndsSo loop a q.1 q.0.env
 
   -- where a range is left is among what is joined with it
-  left-first : (loop left more all : Option Known) → join_left base left more ≡ Some all → (env : Environment) → InLoop loop left env → InLoop loop all env
-  left-first None left more all e env h = absurd h
-  left-first (Some head) None more all e env h = absurd h
-  left-first (Some head) (Some ks) None all e env h = let same : Some ks ≡ all = cc in subst (λ (x : Option Known). InLoop (Some head) x env) same h
-  left-first (Some head) (Some ks) (Some ls) all e env h =
+  left-joined : (loop left more all : Option Known) → join_left base left more ≡ Some all → (env : Environment) → InLoop loop left env ⊎ InLoop loop more env → InLoop loop all env
+  left-joined None left more all e env h = elim h [ inl x ↦ absurd x | inr x ↦ absurd x ]
+  left-joined (Some head) None more all e env (inl x) = absurd x
+  left-joined (Some head) None more all e env (inr x) = let same : more ≡ all = cc in subst (λ (y : Option Known). InLoop (Some head) y env) same x
+  left-joined (Some head) (Some ks) None all e env (inl x) = let same : Some ks ≡ all = cc in subst (λ (y : Option Known). InLoop (Some head) y env) same x
+  left-joined (Some head) (Some ks) None all e env (inr x) = absurd x
+  left-joined (Some head) (Some ks) (Some ls) all e env h =
       let p = mapped_some (join_all base ks ls) (λ js. Some js) all e in
-      subst (λ (x : Option Known). InLoop (Some head) x env) p.2 ((joined-left base N means top) ks ls p.0 (last_of (length head) env) p.1 h)
-
-  left-second : (loop left more all : Option Known) → join_left base left more ≡ Some all → (env : Environment) → InLoop loop more env → InLoop loop all env
-  left-second None left more all e env h = absurd h
-  left-second (Some head) None more all e env h = let same : more ≡ all = cc in subst (λ (x : Option Known). InLoop (Some head) x env) same h
-  left-second (Some head) (Some ks) None all e env h = absurd h
-  left-second (Some head) (Some ks) (Some ls) all e env h =
-      let p = mapped_some (join_all base ks ls) (λ js. Some js) all e in
-      subst (λ (x : Option Known). InLoop (Some head) x env) p.2 ((joined-right base N means top) ks ls p.0 (last_of (length head) env) p.1 h)
+      subst (λ (y : Option Known). InLoop (Some head) y env) p.2 ((joined-has base N means top) ks ls p.0 (last_of (length head) env) p.1 h)
 
   -- what two parts come to
   ends-of : (w : FallThrough) (rs : Known) (a b out : After) → end_parts base w rs a b ≡ Some out
@@ -287,20 +281,15 @@ module _ (base : Base) (N : Names) (means : Means base.defs N) (stops : List (Li
   NeverPastIn control.Range Other body other = ⊥
   NeverPastIn c w body other = NeverPast w body other
 
-  -- .. so the variables after both are those after the one that was run
-  body-known : (w : FallThrough) (rs a b out : Known) → after_parts base w rs a b ≡ Some out → (body other : Value → Next) → NeverPast w body other
-      → (d : Value) (r : Run) → (body d r).1 ≡ done → (env : Environment) → (HasKnown base N means top) (last_of (length rs) a) env → (HasKnown base N means top) out env
-  body-known Both rs a b out joint body other never d r is = ((both-known base N means top) rs a b out joint).0
-  body-known Body rs a b out joint body other never d r is =
-      λ env h. let same : last_of (length rs) a ≡ out = cc in subst (λ (x : Known). (HasKnown base N means top) x env) same h
-  body-known Other rs a b out joint body other never d r is = absurd (never d r is)
-
-  other-known : (w : FallThrough) (rs a b out : Known) → after_parts base w rs a b ≡ Some out → (body other : Value → Next) → NeverPast w body other
-      → (d : Value) (r : Run) → (other d r).1 ≡ done → (env : Environment) → (HasKnown base N means top) (last_of (length rs) b) env → (HasKnown base N means top) out env
-  other-known Both rs a b out joint body other never d r is = ((both-known base N means top) rs a b out joint).1
-  other-known Body rs a b out joint body other never d r is = absurd (never d r is)
-  other-known Other rs a b out joint body other never d r is =
-      λ env h. let same : last_of (length rs) b ≡ out = cc in subst (λ (x : Known). (HasKnown base N means top) x env) same h
+  -- .. so the variables after both are those after either that a run may have come past
+  parts-known : (w : FallThrough) (rs a b out : Known) → after_parts base w rs a b ≡ Some out → (env : Environment)
+      → ((w ≡ Other → ⊥) × (HasKnown base N means top) (last_of (length rs) a) env) ⊎ ((w ≡ Body → ⊥) × (HasKnown base N means top) (last_of (length rs) b) env)
+      → (HasKnown base N means top) out env
+  parts-known Both rs a b out joint env h = (both-known base N means top) rs a b out joint env (elim h [ inl x ↦ inl x.1 | inr x ↦ inr x.1 ])
+  parts-known Body rs a b out joint env (inl x) = let same : last_of (length rs) a ≡ out = cc in subst (λ (y : Known). (HasKnown base N means top) y env) same x.1
+  parts-known Body rs a b out joint env (inr x) = absurd (x.0 refl)
+  parts-known Other rs a b out joint env (inl x) = absurd (x.0 refl)
+  parts-known Other rs a b out joint env (inr x) = let same : last_of (length rs) b ≡ out = cc in subst (λ (y : Known). (HasKnown base N means top) y env) same x.1
 
   choice-ends : (w : FallThrough) (c : Control) (h : Header) (k : State) (loop : Option Known) (f g : Checked) (body other : Value → Next) (sh : Shape) (out : After)
       → after_choice base w c h k f g sh ≡ Some out → holds_loop loop k.env ≡ true → PartHas loop f body → PartHas loop g other → NeverPast w body other
@@ -322,8 +311,8 @@ module _ (base : Base) (N : Names) (means : Means base.defs N) (stops : List (Li
           let o = pipeline_origin k h.pipeline in
           let from = (pipeline-has base N means top) m h.pipeline k d r.env v fits value in
           let x = body (dot_value c v d) q in
-          scope-ends loop k.env a out r.env fits.1 holds x.1 x.0.env (left-first loop a.left b.left out.left left)
-          (body-known w k.env a.env b.env out.env joint body other never (dot_value c v d) q)
+          scope-ends loop k.env a out r.env fits.1 holds x.1 x.0.env (λ e y. left-joined loop a.left b.left out.left left e (inl y))
+          (λ is e y. parts-known w k.env a.env b.env out.env joint e (inl (λ same. subst (λ (u : FallThrough). NeverPast u body other) same never (dot_value c v d) q is, y)))
           (in_f (in_body base c h k sh) a isa (dot_value c v d) q (
             dot-has c (fill base sh) (narrow base true h.pipeline k).dot v d full n.0,
             (value-known base N means top) h.binding (fill base sh) o v full from (narrow base true h.pipeline k).env r.env n.1,
@@ -335,8 +324,8 @@ module _ (base : Base) (N : Names) (means : Means base.defs N) (stops : List (Li
           let o = pipeline_origin k h.pipeline in
           let from = (pipeline-has base N means top) m h.pipeline k d r.env v fits value in
           let x = other d q in
-          scope-ends loop k.env b out r.env fits.1 holds x.1 x.0.env (left-second loop a.left b.left out.left left)
-          (other-known w k.env a.env b.env out.env joint body other never d q)
+          scope-ends loop k.env b out r.env fits.1 holds x.1 x.0.env (λ e y. left-joined loop a.left b.left out.left left e (inr y))
+          (λ is e y. parts-known w k.env a.env b.env out.env joint e (inr (λ same. subst (λ (u : FallThrough). NeverPast u body other) same never d q is, y)))
           (in_g (in_part base false h k sh) b isb d q (n.0, (value-known base N means top) h.binding sh o v has from (narrow base false h.pipeline k).env r.env n.1, n.2))
 
   -- ---- ranges
@@ -358,7 +347,7 @@ module _ (base : Base) (N : Names) (means : Means base.defs N) (stops : List (Li
       by end is false w rest found =
           option_and_then_some (settle_known base n turn) (join_all base ks end) head rest (λ more joint is_found.
           let p = found more head is_found in
-          (λ env h. p.0 env ((joined-left base N means top) ks end more env joint h), p.1, p.2, p.3))
+          (λ env h. p.0 env ((joined-has base N means top) ks end more env joint (inl h)), p.1, p.2, p.3))
 
   soon-so : (turn : Known → Option Known) (ks head : Known) → settle_soon base turn ks ≡ Some head → IsHead turn ks head
   unfolding settle_soon
@@ -370,14 +359,11 @@ module _ (base : Base) (N : Names) (means : Means base.defs N) (stops : List (Li
   TurnEnds head _ env = (HasKnown base N means top) head env
 
   -- the variables after a turn are those where it ends, and where it is left
-  ended : (ks : Known) (left : Option Known) (all : Known) → with_left base ks left ≡ Some all → (env : Environment) → (HasKnown base N means top) ks env → (HasKnown base N means top) all env
-  ended ks None all e env h = let same : ks ≡ all = cc in subst (λ (x : Known). (HasKnown base N means top) x env) same h
-  ended ks (Some ls) all e env h = (joined-left base N means top) ks ls all env e h
-
-  left-so : (head ks : Known) (left : Option Known) (all : Known) → with_left base ks left ≡ Some all → (env : Environment) → InLoop (Some head) left env
-      → (HasKnown base N means top) all (last_of (length head) env)
-  left-so head ks None all e env h = absurd h
-  left-so head ks (Some ls) all e env h = (joined-right base N means top) ks ls all (last_of (length head) env) e h
+  ended : (head ks : Known) (left : Option Known) (all : Known) → with_left base ks left ≡ Some all → (env : Environment)
+      → (HasKnown base N means top) ks (last_of (length head) env) ⊎ InLoop (Some head) left env → (HasKnown base N means top) all (last_of (length head) env)
+  ended head ks None all e env (inl x) = let same : ks ≡ all = cc in subst (λ (y : Known). (HasKnown base N means top) y (last_of (length head) env)) same x
+  ended head ks None all e env (inr x) = absurd x
+  ended head ks (Some ls) all e env h = (joined-has base N means top) ks ls all (last_of (length head) env) e h
 
   turn-end : (head : Known) (inner : After) (all : Known) (env0 : Environment) → (HasKnown base N means top) head env0
       → with_left base (last_of (length head) inner.env) inner.left ≡ Some all → all_within base all head ≡ true → (end : End) (env : Environment)
@@ -391,10 +377,9 @@ module _ (base : Base) (N : Names) (means : Means base.defs N) (stops : List (Li
 
       by : (end : End) → EndsSo (Some head) inner end env → TurnEnds head end (last_of (length env0) env)
       by done e =
-          here (ended (last_of (length head) inner.env) inner.left all is (last_of (length head) env) ((last-known base N means top) (length head) inner.env env e))
+          here (ended head (last_of (length head) inner.env) inner.left all is env (inl ((last-known base N means top) (length head) inner.env env e)))
       by (faulted f) e = e
-      by broke e = here (left-so head (last_of (length head) inner.env) inner.left all is env e)
-      by continued e = here (left-so head (last_of (length head) inner.env) inner.left all is env e)
+      by _ e = here (ended head (last_of (length head) inner.env) inner.left all is env (inr e))
 
   -- what a turn visits: an element of these shapes, and an index or a key of what is at this chain
   abbrev IsTurned : Visit → Origin → Element → Type 0
@@ -461,19 +446,6 @@ module _ (base : Base) (N : Names) (means : Means base.defs N) (stops : List (Li
           each (e ∷ es) h = (key-tied top over v e.0 from (key-there v e.0 h.0) h.0, each es h.1)
 
   -- a range over elements, in its scope
-  past-turns : (w : FallThrough) (rs a b out : Known) → after_parts base w rs a b ≡ Some out → (body other : Value → Next) → NeverPastIn control.Range w body other
-      → (env : Environment) → (HasKnown base N means top) (last_of (length rs) a) env → (HasKnown base N means top) out env
-  past-turns Both rs a b out joint body other never = ((both-known base N means top) rs a b out joint).0
-  past-turns Body rs a b out joint body other never =
-      λ env h. let same : last_of (length rs) a ≡ out = cc in subst (λ (x : Known). (HasKnown base N means top) x env) same h
-  past-turns Other rs a b out joint body other never = absurd never
-
-  past-other : (w : FallThrough) (rs a b out : Known) → after_parts base w rs a b ≡ Some out → (body other : Value → Next) → NeverPastIn control.Range w body other
-      → (d : Value) (r : Run) → (other d r).1 ≡ done → (env : Environment) → (HasKnown base N means top) (last_of (length rs) b) env → (HasKnown base N means top) out env
-  past-other Both rs a b out joint body other never d r is = ((both-known base N means top) rs a b out joint).1
-  past-other Body rs a b out joint body other never d r is = absurd (never d r is)
-  past-other Other rs a b out joint body other never d r is = absurd never
-
   over-ends : (w : FallThrough) (s : Setting) (line : ℕ) (h : Header) (k : State) (loop : Option Known) (f : Option Known → Checked) (g : Checked) (body other : Value → Next) (v : Visit)
       (out : After) → after_range base w h k f g v ≡ Some out → holds_loop loop k.env ≡ true → ((l : Option Known) → PartHas l (f l) body) → PartHas loop g other
       → NeverPastIn control.Range w body other → (d : Value) (r : Run) → (Fits base N means top) k d r.env → (made : Bool) (o : Option (List Element)) → (Visits base N means) (Some v) o → AreTied (pipeline_origin k h.pipeline) o → Begins h k r.env o
@@ -482,7 +454,9 @@ module _ (base : Base) (N : Names) (means : Means base.defs N) (stops : List (Li
       option_and_then_some _ (settle_soon base (turn_known base h v (pipeline_origin k h.pipeline) f) (at_head base h k)) out is (λ head ish rest.
       option_and_then_some (end_parts base w k.env (past head)) (g k) out rest (λ b isb joint.
       let p = ends-of w k.env (past head) b out joint in
-      by o visits ties begins head b isb (past-turns w k.env head b.env out.env p.0 body other never) (past-other w k.env head b.env out.env p.0 body other never) p.1
+      by o visits ties begins head b isb
+      (λ e y. parts-known w k.env head b.env out.env p.0 e (inl (λ same. subst (λ (u : FallThrough). NeverPastIn control.Range u body other) same never, y)))
+      (λ d r is e y. parts-known w k.env head b.env out.env p.0 e (inr (λ same. subst (λ (u : FallThrough). NeverPastIn control.Range u body other) same never d r is, y))) p.1
       (soon-so (turn_known base h v (pipeline_origin k h.pipeline) f) (at_head base h k) head ish)))
     where
       r1 : Run
@@ -509,11 +483,11 @@ module _ (base : Base) (N : Names) (means : Means base.defs N) (stops : List (Li
       by None visits ties begins head b isb gone passed left set = absurd visits
       by (Some []) visits ties begins head b isb gone passed left set =
           let x = other d r1 in
-          scope-ends loop k.env b out r.env fits.1 holds x.1 x.0.env (left-second loop None b.left out.left left) (passed d r1) (in_g k b isb d r1 fits)
+          scope-ends loop k.env b out r.env fits.1 holds x.1 x.0.env (λ e y. left-joined loop None b.left out.left left e (inr y)) (passed d r1) (in_g k b isb d r1 fits)
       by (Some (e ∷ es)) visits ties begins head b isb gone passed left set =
           let x = turns s line h.binding body (e ∷ es) r1 in
           option_and_then_some (λ (a : After). with_left base (last_of (length head) a.env) a.left) (f (Some head) (in_turn h v from head)) set.1 set.2 (λ inner isi is_all.
-          scope-ends loop k.env (past head) out r.env fits.1 holds x.1 x.0.env (left-first loop None b.left out.left left) (λ e. gone)
+          scope-ends loop k.env (past head) out r.env fits.1 holds x.1 x.0.env (λ e y. left-joined loop None b.left out.left left e (inl y)) (λ e. gone)
           (turning head inner set.1 isi is_all set.3 (e ∷ es) (turned v from (e ∷ es) visits ties) (set.0 r.env begins)))
 
   -- a control in its scope
@@ -737,7 +711,7 @@ module _ (base : Base) (N : Names) (means : Means base.defs N) (stops : List (Li
     left-kept (tree.then line n ns) loop left k out is env h =
         option_and_then_some _ (after_node base s.rules.missing_key table loop k n) out is (λ middle ism rest.
         option_and_then_some _ (join_left base left middle.left) out rest (λ all isa more.
-        left-kept ns loop all (record k { dot = dot_after base table k n; env = middle.env }) out more env (left-first loop left middle.left all isa env h)))
+        left-kept ns loop all (record k { dot = dot_after base table k n; env = middle.env }) out more env (left-joined loop left middle.left all isa env (inl h))))
 
     mutual
       stepped-ends : (n : NodeKind) (line : ℕ) (loop : Option Known) → PartHas loop (λ k. after_node base s.rules.missing_key table loop k n) (stepped s line n)
@@ -775,7 +749,7 @@ module _ (base : Base) (N : Names) (means : Means base.defs N) (stops : List (Li
           let dot : x.1 ≡ done → HasShape N (dot_after base table k n) d =
           spend-past (HasShape N (dot_after base table k n) d) line (stepped s line n d) r (λ left. step-dot n line loop k middle ism d (record r { left = left }) fits) in
           after-ends loop middle out (meanings s ns d) x.0 x.1
-          (λ h. left-kept ns loop all u out more x.0.env (left-second loop left middle.left all isa x.0.env h))
+          (λ h. left-kept ns loop all u out more x.0.env (left-joined loop left middle.left all isa x.0.env (inr h)))
           (λ is known. nodes-end ns loop all u out more d x.0 (dot is, known, fits.2))
           (spend-ends loop middle s line (stepped s line n d) r (λ left. stepped-ends n line loop k middle ism d (record r { left = left }) fits))))
 

@@ -39,7 +39,7 @@ use Rattle.tmpl_schema.specs.computed.Check.{operand_counts, are_constants, is_n
 use Rattle.tmpl_schema.specs.computed.Check.{are_texts, bounds_of, sliced_shape, call_place, chain_place, index_place, texts_in, deciding_shape, passing_shape, passed, operand_shapes, junction_shape, commands_shape}
 use Rattle.tmpl_schema.specs.computed.Check as check
 use Rattle.tmpl_schema.specs.computed.Check.{Origin, Tie, keyed, key_tie, narrow_from, narrow_root, operand_origin, own_entry, path_of, tie_of, tie_within, pipeline_origin, pipeline_place, place_of, place_origin, refine_all, refine_along, refine_from, rest_of, root_origin}
-use Rattle.tmpl_schema.proofs.OriginLemmas.{HasOrigin, HasTie, IsAt, IsKeyOf, at-chain, at-gone, at-joined, at-rest, at-root, path-has, rest_of-is, tie_within-has, tied, ties-left, ties-right}
+use Rattle.tmpl_schema.proofs.OriginLemmas.{HasOrigin, HasTie, IsAt, IsKeyOf, at-chain, at-gone, at-joined, at-rest, at-root, path-has, rest_of-is, tie_within-has, tied, ties-has}
 use Rattle.tmpl_schema.specs.computed.Check.{Known, State, Variable, find_variable, assigned_shape, bound_shapes, refine_variable, all_within, is_split, join_all, join_ties, join_parts, join_to, last_of}
 use Rattle.tmpl_schema.specs.computed.Check.{absent_field, after_both, entry_along, entry_by, operand_shape, indexed_shape, printed_shape, command_shape, pipeline_shape, narrow}
 use Rattle.tmpl_shape.proofs.KindLemmas.{has_kind-has}
@@ -262,54 +262,23 @@ module _ (base : Base) (N : Names) (means : Means base.defs N) (top : Value) whe
   within-known (a ∷ more) (b ∷ bs) [] e h = absurd h
   within-known _ _ env e h = absurd (false≢true e)
 
-  -- what the joined variables begin with
-  abbrev joined : List ℕ × Shape × Tie → List ℕ × Shape × Tie → List ℕ × Shape × Tie
-  joined k l = (k.0, join base k.1 l.1, join_ties k.2 l.2)
-
-  was_joined : (k l : List ℕ × Shape × Tie) (c : Known) (b : Bool) (o : Option Known) → bytes_eq k.0 l.0 ≡ b
-      → (if b then option_map (λ js. joined k l ∷ js) o else None) ≡ Some c
-      → (js : Known) × (bytes_eq k.0 l.0 ≡ true) × (o ≡ Some js) × ((joined k l ∷ js) ≡ c)
-  was_joined k l c true (Some js) is e = let same : (joined k l ∷ js) ≡ c = cc in (js, is, refl, same)
-  was_joined k l c true None is e = cc
-  was_joined k l c false o is e = cc
+  was_joined : (b : Bool) (j : Variable) (o : Option Known) (c : Known) → (if b then option_map (λ js. j ∷ js) o else None) ≡ Some c
+      → (js : Known) × (b ≡ true) × (o ≡ Some js) × ((j ∷ js) ≡ c)
+  was_joined true j (Some js) c e = (js, refl, refl, cc)
+  was_joined true j None c e = cc
+  was_joined false j o c e = cc
 
   -- what is known of one of two is known of both
-  pub joined-left : (a b c : Known) (env : Environment) → join_all base a b ≡ Some c → HasKnown a env → HasKnown c env
-  joined-left [] [] c env e h = let same : [] ≡ c = cc in subst (λ (y : Known). HasKnown y env) same h
-  joined-left (k ∷ ks) (l ∷ ls) c [] e h = absurd h
-  joined-left (k ∷ ks) (l ∷ ls) c (v ∷ env) e h =
-      let p = was_joined k l c (bytes_eq k.0 l.0) (join_all base ks ls) refl e in
-      subst (λ (y : Known). HasKnown y (v ∷ env)) p.3 (
-        h.0,
-        (join-left base N means) k.1 l.1 v.1 h.1,
-        joined-left ks ls p.0 env p.2 h.2,
-        ties-left top k.2 l.2 v.1 h.3,
-      )
-  joined-left _ _ c env e h = cc
-
-  pub joined-right : (a b c : Known) (env : Environment) → join_all base a b ≡ Some c → HasKnown b env → HasKnown c env
-  joined-right [] [] c env e h = let same : [] ≡ c = cc in subst (λ (y : Known). HasKnown y env) same h
-  joined-right (k ∷ ks) (l ∷ ls) c [] e h = absurd h
-  joined-right (k ∷ ks) (l ∷ ls) c (v ∷ env) e h =
-      let p = was_joined k l c (bytes_eq k.0 l.0) (join_all base ks ls) refl e in
-      subst (λ (y : Known). HasKnown y (v ∷ env)) p.3 (
-        h.0 ∙ sym (same_name k.0 l.0 p.1),
-        (join-right base N means) k.1 l.1 v.1 h.1,
-        joined-right ks ls p.0 env p.2 h.2,
-        ties-right top k.2 l.2 v.1 h.3,
-      )
-  joined-right _ _ c env e h = cc
-
-  -- what the variables after two parts begin with
-  abbrev parted : List ℕ × Shape × Tie → List ℕ × Shape × Tie → List ℕ × Shape × Tie → List ℕ × Shape × Tie
-  parted r k l = (k.0, join_to base r.1 k.1 l.1, join_ties k.2 l.2)
-
-  was_parted : (r k l : List ℕ × Shape × Tie) (c : Known) (b : Bool) (o : Option Known) → bytes_eq k.0 l.0 ≡ b
-      → (if b then option_map (λ js. parted r k l ∷ js) o else None) ≡ Some c
-      → (js : Known) × (bytes_eq k.0 l.0 ≡ true) × (o ≡ Some js) × ((parted r k l ∷ js) ≡ c)
-  was_parted r k l c true (Some js) is e = let same : (parted r k l ∷ js) ≡ c = cc in (js, is, refl, same)
-  was_parted r k l c true None is e = cc
-  was_parted r k l c false o is e = cc
+  pub joined-has : (a b c : Known) (env : Environment) → join_all base a b ≡ Some c → HasKnown a env ⊎ HasKnown b env → HasKnown c env
+  joined-has [] [] c env e h = let same : [] ≡ c = cc in subst (λ (y : Known). HasKnown y env) same (elim h [ inl x ↦ x | inr x ↦ x ])
+  joined-has (k ∷ ks) (l ∷ ls) c [] e h = elim h [ inl x ↦ absurd x | inr x ↦ absurd x ]
+  joined-has (k ∷ ks) (l ∷ ls) c (v ∷ env) e h =
+      let p = was_joined (bytes_eq k.0 l.0) (k.0, join base k.1 l.1, join_ties k.2 l.2) (join_all base ks ls) c e in
+      subst (λ (y : Known). HasKnown y (v ∷ env)) p.3 (elim h [
+        | inl x ↦ (x.0, (join-left base N means) k.1 l.1 v.1 x.1, joined-has ks ls p.0 env p.2 (inl x.2), ties-has top k.2 l.2 v.1 (inl x.3))
+        | inr x ↦ (x.0 ∙ sym (same_name k.0 l.0 p.1), (join-right base N means) k.1 l.1 v.1 x.1, joined-has ks ls p.0 env p.2 (inr x.2), ties-has top k.2 l.2 v.1 (inr x.3))
+      ])
+  joined-has _ _ c env e h = cc
 
   part-has : (r s t : Shape) (v : Value) → HasShape N s v ⊎ HasShape N t v → HasShape N (join_to base r s t) v
   part-has r s t v h = by (is_split base r s t) refl
@@ -332,39 +301,21 @@ module _ (base : Base) (N : Names) (means : Means base.defs N) (top : Value) whe
       by true e = among (and_parts (not (within base s t || within base t s)) (within base s r && within base t r) e).1
       by false e = joined-has
 
-  parted-left : (rs a b c : Known) (env : Environment) → join_parts base rs a b ≡ Some c → HasKnown a env → HasKnown c env
-  parted-left [] [] [] c env e h = let same : [] ≡ c = cc in subst (λ (y : Known). HasKnown y env) same h
-  parted-left (r ∷ rs) (k ∷ ks) (l ∷ ls) c [] e h = absurd h
-  parted-left (r ∷ rs) (k ∷ ks) (l ∷ ls) c (v ∷ env) e h =
-      let p = was_parted r k l c (bytes_eq k.0 l.0) (join_parts base rs ks ls) refl e in
-      subst (λ (y : Known). HasKnown y (v ∷ env)) p.3 (
-        h.0,
-        part-has r.1 k.1 l.1 v.1 (inl h.1),
-        parted-left rs ks ls p.0 env p.2 h.2,
-        ties-left top k.2 l.2 v.1 h.3,
-      )
-  parted-left _ _ _ c env e h = cc
-
-  parted-right : (rs a b c : Known) (env : Environment) → join_parts base rs a b ≡ Some c → HasKnown b env → HasKnown c env
-  parted-right [] [] [] c env e h = let same : [] ≡ c = cc in subst (λ (y : Known). HasKnown y env) same h
-  parted-right (r ∷ rs) (k ∷ ks) (l ∷ ls) c [] e h = absurd h
-  parted-right (r ∷ rs) (k ∷ ks) (l ∷ ls) c (v ∷ env) e h =
-      let p = was_parted r k l c (bytes_eq k.0 l.0) (join_parts base rs ks ls) refl e in
-      subst (λ (y : Known). HasKnown y (v ∷ env)) p.3 (
-        h.0 ∙ sym (same_name k.0 l.0 p.1),
-        part-has r.1 k.1 l.1 v.1 (inr h.1),
-        parted-right rs ks ls p.0 env p.2 h.2,
-        ties-right top k.2 l.2 v.1 h.3,
-      )
-  parted-right _ _ _ c env e h = cc
+  parted-has : (rs a b c : Known) (env : Environment) → join_parts base rs a b ≡ Some c → HasKnown a env ⊎ HasKnown b env → HasKnown c env
+  parted-has [] [] [] c env e h = let same : [] ≡ c = cc in subst (λ (y : Known). HasKnown y env) same (elim h [ inl x ↦ x | inr x ↦ x ])
+  parted-has (r ∷ rs) (k ∷ ks) (l ∷ ls) c [] e h = elim h [ inl x ↦ absurd x | inr x ↦ absurd x ]
+  parted-has (r ∷ rs) (k ∷ ks) (l ∷ ls) c (v ∷ env) e h =
+      let p = was_joined (bytes_eq k.0 l.0) (k.0, join_to base r.1 k.1 l.1, join_ties k.2 l.2) (join_parts base rs ks ls) c e in
+      subst (λ (y : Known). HasKnown y (v ∷ env)) p.3 (elim h [
+        | inl x ↦ (x.0, part-has r.1 k.1 l.1 v.1 (inl x.1), parted-has rs ks ls p.0 env p.2 (inl x.2), ties-has top k.2 l.2 v.1 (inl x.3))
+        | inr x ↦ (x.0 ∙ sym (same_name k.0 l.0 p.1), part-has r.1 k.1 l.1 v.1 (inr x.1), parted-has rs ks ls p.0 env p.2 (inr x.2), ties-has top k.2 l.2 v.1 (inr x.3))
+      ])
+  parted-has _ _ _ c env e h = cc
 
   -- after two parts the variables that were there before are known
-  pub both-known : (rs a b c : Known) → after_both base rs a b ≡ Some c
-      → ((env : Environment) → HasKnown (last_of (length rs) a) env → HasKnown c env) × ((env : Environment) → HasKnown (last_of (length rs) b) env → HasKnown c env)
-  both-known rs a b c e = (
-    λ env h. parted-left rs (last_of (length rs) a) (last_of (length rs) b) c env e h,
-    λ env h. parted-right rs (last_of (length rs) a) (last_of (length rs) b) c env e h,
-  )
+  pub both-known : (rs a b c : Known) → after_both base rs a b ≡ Some c → (env : Environment)
+      → HasKnown (last_of (length rs) a) env ⊎ HasKnown (last_of (length rs) b) env → HasKnown c env
+  both-known rs a b c e env h = parted-has rs (last_of (length rs) a) (last_of (length rs) b) c env e h
 
   -- ---- variables
 
