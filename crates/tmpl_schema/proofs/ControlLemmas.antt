@@ -1,13 +1,9 @@
 -- For code on controls: what is known after one, by what is known after its parts.
-use Rattle.std.proofs.Common.{rules, ◌≡◌, true, false, Option, Some, None, refl, subst}
+use Rattle.std.proofs.Common.{◌≡◌, true, false, Option, Some, None, refl, subst}
 use Rattle.tmpl_grammar.specs.Tree.{Header}
 use Rattle.tmpl_grammar.specs.declared.tree.Control.{Control}
-use Rattle.tmpl_grammar.specs.View.{header_of}
 use Rattle.tmpl_grammar.specs.declared.tree.Control.TheVariants as control
 use Rattle.tmpl_syntax.specs.Tree.{NodeKind, Nodes, control_node}
-use Rattle.tmpl_syntax.specs.View.{control_of, nodes_in}
-use Rattle.tmpl_syntax.specs.declared.tree.NodeKind.{the_lemmas}
-use Rattle.tmpl_syntax.specs.declared.tree.ControlNode.{ControlNode, out-ControlNode}
 use Rattle.tmpl_meaning.specs.declared.missing_key.MissingKey.{MissingKey}
 use Rattle.tmpl_shape.specs.Shape.{Shape}
 use Rattle.tmpl_shape.specs.computed.Shapes.{Base, Visit, visit_of}
@@ -30,10 +26,6 @@ module _ (base : Base) (m : MissingKey) (table : Table) (loop : Option Known) (h
       subst (λ (i : Origin). settle_soon base (turn_by base m table h v i body) start ≡ Some head) from a in
       let found : settle_soon base (turn_by base m table h v o body) (at_head base h k) ≡ Some head =
       subst (λ (i : Known). settle_soon base (turn_by base m table h v o body) i ≡ Some head) is there in rw visit (rw (found, b) refl)
-
-pub control_seen : (c : ControlNode) → control_of c
-    ≡ control_node (out-ControlNode c).control (header_of (out-ControlNode c).header) (nodes_in (out-ControlNode c).body.items) (nodes_in (out-ControlNode c).other.items)
-control_seen c = search (rules, the_lemmas)
 
 module _ (base : Base) (m : MissingKey) (table : Table) (loop : Option Known) (k : State) where
   pub range-control : (n : NodeKind) (h : Header) (body other : Nodes) (s : Shape) → n ≡ control_node control.Range h body other

@@ -187,12 +187,10 @@ pub(crate) fn bind(
 fn is_longer(known: &Known, other: &Known) -> bool
     ensures { result ≡ is_longer (known_of known.now) (known_of other.now) }
 {
-    match known {
-        Known::Empty => false,
-        Known::More(newest) => match other {
-            Known::Empty => true,
-            Known::More(others) => is_longer(&newest.older, &others.older),
-        },
+    match (known, other) {
+        (Known::More(newest), Known::More(others)) => is_longer(&newest.older, &others.older),
+        (Known::More(_), Known::Empty) => true,
+        (Known::Empty, _) => false,
     }
 }
 

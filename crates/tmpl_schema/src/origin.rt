@@ -151,18 +151,16 @@ pub(crate) fn copy_origin(
 pub(crate) fn rest_of<'n>(path: &[Bytes], names: &'n [Bytes]) -> Option<&'n [Bytes]>
     ensures { option_map (λ r. r.now) result ≡ rest_of path.now names.now }
 {
-    match path {
-        [] => Some(names),
-        [first, others @ ..] => match names {
-            [] => None,
-            [name, rest @ ..] => {
-                if first.as_slice() == name.as_slice() {
-                    rest_of(others, rest)
-                } else {
-                    None
-                }
+    match (path, names) {
+        ([], _) => Some(names),
+        ([first, others @ ..], [name, rest @ ..]) => {
+            if first.as_slice() == name.as_slice() {
+                rest_of(others, rest)
+            } else {
+                None
             }
-        },
+        }
+        ([_, _others @ ..], []) => None,
     }
 }
 
@@ -170,14 +168,12 @@ pub(crate) fn rest_of<'n>(path: &[Bytes], names: &'n [Bytes]) -> Option<&'n [Byt
 pub(crate) fn is_path(path: &[Bytes], names: &[Bytes]) -> bool
     ensures { result ≡ is_path path.now names.now }
 {
-    match path {
-        [] => match names {
-            [] => true,
-            [_, _more @ ..] => false,
-        },
-        [first, others @ ..] => match names {
-            [] => false,
-            [name, rest @ ..] => first.as_slice() == name.as_slice() && is_path(others, rest),
-        },
+    match (path, names) {
+        ([], []) => true,
+        ([first, others @ ..], [name, rest @ ..]) => {
+            first.as_slice() == name.as_slice() && is_path(others, rest)
+        }
+        ([], [_, _rest @ ..]) => false,
+        ([_, _others @ ..], []) => false,
     }
 }
