@@ -192,15 +192,10 @@ fn handed_shape(
     }
 }
 
-/// That a template is called with values of this shape.
-fn want_call(alloc: Global, name: &Bytes, shape: Shape) -> Failure {
-    match copy_name(alloc, name.as_slice()) {
-        Ok(name) => match Box::new(alloc, Call { name, shape }) {
-            Ok(call) => Failure::Wanted(call),
-            Err(_) => Failure::OutOfMemory,
-        },
-        Err(_) => Failure::OutOfMemory,
-    }
+/// A call of a template with values of this shape.
+fn call_with(alloc: Global, name: &Bytes, shape: Shape) -> Result<Box<Call>, AllocError> {
+    let name = copy_name(alloc, name.as_slice())?;
+    Ok(Box::new(alloc, Call { name, shape })?)
 }
 
 /// After a call of a template.
@@ -220,13 +215,13 @@ fn after_call(
         Some(Callee::Handed(shape)) => {
             let given = handed_shape(checker, state, given)?;
             if !within(&checker.base, &given, shape) {
-                return Err(want_call(checker.base.alloc, name, given));
+                return Err(Failure::Wanted(call_with(checker.base.alloc, name, given)?));
             }
             Ok(After::past(copy_known(&state.known)?))
         }
         None => {
             let given = handed_shape(checker, state, given)?;
-            Err(want_call(checker.base.alloc, name, given))
+            Err(Failure::Wanted(call_with(checker.base.alloc, name, given)?))
         }
     }
 }

@@ -126,12 +126,9 @@ impl Context<'_> {
         ensures { IfOk result (λ s. alone (in_context self.now operand_shape (operand_of first.now)) (shape_seen piped.entry) (operands_in rest.now)
             ≡ Some (shape_of s)) }
     {
-        match piped {
-            Some(_) => Err(self.may_fail(Cause::Command)),
-            None => match rest {
-                [] => self.operand_shape(first),
-                [_, _more @ ..] => Err(self.may_fail(Cause::Command)),
-            },
+        match (piped, rest) {
+            (None, []) => self.operand_shape(first),
+            _ => Err(self.may_fail(Cause::Command)),
         }
     }
 
