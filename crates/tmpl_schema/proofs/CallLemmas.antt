@@ -1,6 +1,6 @@
 -- For the law `runs_safely`: calls have the shapes that are computed.
 use Rattle.std.proofs.Common.{◌≡◌, ◌∙◌, ◌||◌, ◌&&◌, ℕ, pos, Bool, true, false, not, List, [], ◌∷◌, map, Option, Some, None, Result, inl, inr, refl, sym, if◌then◌else◌, option_map, option_and_then, ok_or}
-use Rattle.std.proofs.lemmas.Bool.{false≢true, and_parts}
+use Rattle.std.proofs.lemmas.Bool.{false≢true, and_parts, not-true}
 use Rattle.std.specs.Result.{result_map_both}
 use Rattle.tmpl_values.specs.Value.{Value, nothing, null, boolean, number, string, sequence, mapping}
 use Rattle.tmpl_values.specs.Compare.{equality, order}
@@ -56,10 +56,6 @@ abbrev pub AreAmong : List Kinds → List Value → Type 0
 AreAmong [] [] = Unit {0}
 AreAmong (ks ∷ kss) (v ∷ vs) = IsAmong ks v × AreAmong kss vs
 AreAmong kss vs = ⊥
-
-not_true : (b : Bool) → not b ≡ true → b ≡ false
-not_true false e = refl
-not_true true e = absurd (false≢true e)
 
 apart : (b : Bool) → b ≡ true → b ≡ false → ⊥
 apart b e f = false≢true (sym f ∙ e)
@@ -124,7 +120,7 @@ unclashed (mapping a) w ks e h = many w h (neither ks.truth (ks.number || (ks.te
 comparable-so : (a b : Kinds) (v w : Value) → IsAmong a v → IsAmong b w → comparable a b ≡ true → Compared (equality v w)
 comparable-so a b v w h g e =
     let p : (not (has a (kind_of v)) || not (clashes (kind_of v) b)) ≡ true = at-kind (λ k. not (has a k) || not (clashes k b)) e (kind_of v) in
-    let q : not (clashes (kind_of v) b) ≡ true = rw h at p in unclashed v w b (not_true (clashes (kind_of v) b) q) g
+    let q : not (clashes (kind_of v) b) ≡ true = rw h at p in unclashed v w b (not-true (clashes (kind_of v) b) q) g
 
 equal-so : (a : Kinds) (v : Value) → IsAmong a v → (bs : List Kinds) (ws : List Value) → AreAmong bs ws → comparable_to_all a bs ≡ true → Compared (equal_to_one v ws)
 equal-so a v h [] [] g e = tt
@@ -142,7 +138,7 @@ equal-so a v h _ _ g e = absurd g
 
 none-of-four : (a b c d : Bool) → not (a || (b || (c || d))) ≡ true → (a ≡ false) × (b ≡ false) × (c ≡ false) × (d ≡ false)
 none-of-four a b c d e =
-    let p = neither a (b || (c || d)) (not_true (a || (b || (c || d))) e) in let q = neither b (c || d) p.1 in let r = neither c d q.1 in (p.0, q.0, r.0, r.1)
+    let p = neither a (b || (c || d)) (not-true (a || (b || (c || d))) e) in let q = neither b (c || d) p.1 in let r = neither c d q.1 in (p.0, q.0, r.0, r.1)
 
 abbrev IsNumber : Value → Type 0
 IsNumber (number n) = Unit {0}
@@ -209,7 +205,7 @@ IsSized (Some n) = Unit {0}
 
 sized : (ks : Kinds) (v : Value) → IsAmong ks v → is_sized ks ≡ true → IsSized (size_of v)
 sized ks v h e =
-    let p = neither ks.blank (ks.truth || ks.number) (not_true (ks.blank || (ks.truth || ks.number)) e) in
+    let p = neither ks.blank (ks.truth || ks.number) (not-true (ks.blank || (ks.truth || ks.number)) e) in
     let q = neither ks.truth ks.number p.1 in by v h (p.0, q.0, q.1)
   where
     by : (w : Value) → IsAmong ks w → (ks.blank ≡ false) × (ks.truth ≡ false) × (ks.number ≡ false) → IsSized (size_of w)

@@ -1,6 +1,6 @@
 -- For the law `runs_safely`: what is found to be a copy loop is one.
-use Rattle.std.proofs.Common.{◌≡◌, ◌∙◌, ◌||◌, ℕ, Bool, true, false, not, List, [], ◌∷◌, Option, Some, None, Result, Ok, Err, refl, sym, subst, ap, if◌then◌else◌}
-use Rattle.std.proofs.lemmas.Bool.{and_parts, false≢true}
+use Rattle.std.proofs.Common.{◌≡◌, ◌∙◌, ◌||◌, ℕ, Bool, true, false, List, [], ◌∷◌, Option, Some, None, Result, Ok, Err, refl, sym, subst, ap, if◌then◌else◌}
+use Rattle.std.proofs.lemmas.Bool.{and_parts, false≢true, not-false, not-true, or_right}
 use Rattle.std.specs.Prelude.{◌&&◌, bytes_eq, MatchOption}
 use Rattle.std.specs.Option.{is_some}
 use Rattle.std.specs.Result.{result_ok}
@@ -30,24 +30,12 @@ use Rattle.tmpl_schema.specs.computed.Check.{State, pipeline_shape}
 use Rattle.tmpl_schema.specs.computed.Loops.{Acts, AreLoop, Chooses, EndsWell, HasValue, IsFound, byte_state}
 use Rattle.tmpl_schema.proofs.VariableLemmas.{place, pipeline-gives}
 
-or-right : (a b : Bool) → b ≡ true → (a || b) ≡ true
-or-right true b e = refl
-or-right false b e = e
-
-not-so : (b : Bool) → not b ≡ false → b ≡ true
-not-so true e = refl
-not-so false e = absurd (false≢true (sym e))
-
-not-no : (b : Bool) → not b ≡ true → b ≡ false
-not-no false e = refl
-not-no true e = absurd (false≢true e)
-
 -- a pipeline that is made of the byte alone is so by any other tests that the byte passes
 module _ (sees more : List ℕ → Bool) (is_byte : Pipeline → Bool) (passes : (name : List ℕ) → sees name ≡ true → more name ≡ true) where
   mutual
     operand-seen : (o : Operand) → is_seen sees (λ p. false) o ≡ true → is_seen more is_byte o ≡ true
     operand-seen (variable name []) e = passes name e
-    operand-seen (group cs []) e = or-right (is_byte cs) (are_all_seen more is_byte cs) (commands-seen cs e)
+    operand-seen (group cs []) e = or_right (is_byte cs) (are_all_seen more is_byte cs) (commands-seen cs e)
     operand-seen (variable name (f ∷ fs)) e = absurd (false≢true e)
     operand-seen (group cs (f ∷ fs)) e = absurd (false≢true e)
     operand-seen dot e = absurd (false≢true e)
@@ -172,7 +160,7 @@ module _ (base : Base) (N : Stands) (means : Means base.defs N) (set : List Temp
     act-more xs more unbound q false anew h put e = keep-more xs more q h.0 anew h.1 put e
     act-more xs more unbound q true anew h put e = show-more xs more q h.0 anew h.1 put e
     act-more xs more (assign name) q kept anew h put e =
-        let test : (bytes_eq p.new name && is_yes (lone q)) ≡ true = λ i. not-so (bytes_eq p.new name) h.0 i && h.1 i in
+        let test : (bytes_eq p.new name && is_yes (lone q)) ≡ true = λ i. not-false (bytes_eq p.new name) h.0 i && h.1 i in
         subst (λ (c : Bool). IsFine (going_on (if c then going put true else refused) (after_nodes n value xs))) (sym test) (more kept true h.2 put e)
     act-more xs more (declare name) q kept anew h put e = absurd h
     act-more xs more (declare_pair key name) q kept anew h put e = absurd h
@@ -203,7 +191,7 @@ module _ (base : Base) (N : Stands) (means : Means base.defs N) (set : List Temp
   of-parts : (p : Parts) → parts_of t.nodes ≡ Some p → AreLoop base set stops p → IsCopyLoop set stops t
   of-parts p is h =
       let found = finds_loops t.nodes p is h.closed h.apart in
-      let differs = not-no (bytes_eq p.byte p.text) (and_parts (differ p.byte p.text) _ h.apart).0 in (
+      let differs = not-true (bytes_eq p.byte p.text) (and_parts (differ p.byte p.text) _ h.apart).0 in (
         found.0,
         [],
         record {

@@ -8,14 +8,14 @@ use Rattle.std.proofs.lemmas.Bool.Decides.{Decides-int_eq}
 use Rattle.std.proofs.lemmas.Slice.Eq.{bytes_eq-Decides}
 use Rattle.std.proofs.lemmas.Option.{cond_some, option_and_then_some}
 use Rattle.std.specs.Option.{option_and_then, option_map, option_map_or}
-use Rattle.tmpl_values.specs.Value.{Value, nothing, null, boolean, number, string, sequence, mapping, Items, no_item, item, Entries, no_entry, entry}
-use Rattle.tmpl_values.specs.Elements.{Element, elements, elements_of_entries, pairs, values_of_items}
+use Rattle.tmpl_values.specs.Value.{Value, nothing, null, number, string, sequence, mapping, Items, no_item, item, Entries, no_entry, entry}
+use Rattle.tmpl_values.specs.Elements.{Element, elements, elements_of_entries, values_of_items}
 use Rattle.tmpl_values.specs.Truth.{truth}
 use Rattle.tmpl_values.specs.Compare.{is_nothing}
 use Rattle.tmpl_values.specs.Field.{entry_at}
 use Rattle.std.specs.List.{enumerate_from}
 use Rattle.std.specs.Str.{bytes_eq}
-use Rattle.tmpl_grammar.specs.Tree.{Pipeline, Binding, unbound, declare, assign, declare_pair, Header}
+use Rattle.tmpl_grammar.specs.Tree.{Pipeline, Binding, unbound, declare_pair, Header}
 use Rattle.tmpl_grammar.specs.declared.tree.Control.{Control}
 use Rattle.tmpl_grammar.specs.declared.tree.Control.TheVariants as control
 use Rattle.tmpl_syntax.specs.Tree as tree
@@ -54,9 +54,6 @@ mapped_some (Some x) t y e = (x, refl, cc)
 
 -- what has an element is not empty
 elements-true : (v : Value) (e : Element) (es : List Element) → elements v ≡ Some (e ∷ es) → truth v ≡ true
-elements-true nothing e es is = cc
-elements-true null e es is = cc
-elements-true (boolean b) e es is = cc
 elements-true (number z) e es is = by (int_eq z (pos 0)) refl
   where
     by : (b : Bool) → int_eq z (pos 0) ≡ b → not b ≡ true
@@ -64,30 +61,15 @@ elements-true (number z) e es is = by (int_eq z (pos 0)) refl
         let none : elements (number (pos 0)) ≡ Some (e ∷ es) =
         subst (λ (i : ℤ). elements (number i) ≡ Some (e ∷ es)) ((Decides-int_eq z (pos 0)).0 q) is in cc
     by false q = refl
-elements-true (string t) e es is = cc
-elements-true (sequence no_item) e es is = cc
 elements-true (sequence (item v vs)) e es is = above-zero (length (values_of_items vs))
-elements-true (mapping no_entry) e es is = cc
 elements-true (mapping (entry x v xs)) e es is = above-zero (length (elements_of_entries xs))
+elements-true _ e es is = cc
 
 visited-true : (b : Binding) (v : Value) (e : Element) (es : List Element) → elements_visited b v ≡ Some (e ∷ es) → truth v ≡ true
 visited-true (declare_pair key name) (number n) e es is = cc
-visited-true (declare_pair key name) nothing e es is = elements-true nothing e es is
-visited-true (declare_pair key name) null e es is = elements-true null e es is
-visited-true (declare_pair key name) (boolean b) e es is = elements-true (boolean b) e es is
-visited-true (declare_pair key name) (string t) e es is = elements-true (string t) e es is
-visited-true (declare_pair key name) (sequence vs) e es is = elements-true (sequence vs) e es is
-visited-true (declare_pair key name) (mapping xs) e es is = elements-true (mapping xs) e es is
-visited-true unbound v e es is = elements-true v e es is
-visited-true (declare name) v e es is = elements-true v e es is
-visited-true (assign name) v e es is = elements-true v e es is
+visited-true _ v e es is = elements-true v e es is
 
 -- ---- indexes and keys
-
--- with two variables a range visits the same, but for numbers
-elements-same : (b : Binding) (v : Value) → pairs v ≡ elements v → elements_visited b v ≡ elements v
-elements-same (declare_pair key name) (number n) e = cc
-elements-same _ v e = refl
 
 abbrev AllKeys : Value → List Element → Type 0
 AllKeys v [] = Unit {0}
@@ -100,11 +82,7 @@ AreKeys v (Some es) = AllKeys v es
 key-there : (v x : Value) → IsKeyOf v x → is_nothing v ≡ false
 key-there nothing x h = absurd h
 key-there null x h = absurd h
-key-there (boolean b) x h = refl
-key-there (number n) x h = refl
-key-there (string s) x h = refl
-key-there (sequence vs) x h = refl
-key-there (mapping es) x h = refl
+key-there _ x h = refl
 
 count-keys : (n : ℤ) (is : List ℕ) → AllKeys (number n) (map (λ i. (number (pos i), number (pos i))) is)
 count-keys n [] = tt
@@ -129,15 +107,10 @@ entry-keys all (entry k v es) f = (f k (first (bytes_eq k k) ((bytes_eq-Decides 
 
 visited-keys : (b : Binding) (v : Value) → AreKeys v (elements_visited b v)
 visited-keys (declare_pair key name) (number n) = tt
-visited-keys unbound (number n) = count-keys n _
-visited-keys (declare name) (number n) = count-keys n _
-visited-keys (assign name) (number n) = count-keys n _
-visited-keys b (sequence vs) = rw (elements-same b (sequence vs) refl) (item-keys vs vs 0 (omega arith))
-visited-keys b (mapping es) = rw (elements-same b (mapping es) refl) (entry-keys es es (λ k h. h))
-visited-keys b nothing = rw (elements-same b nothing refl) tt
-visited-keys b null = rw (elements-same b null refl) tt
-visited-keys b (boolean c) = rw (elements-same b (boolean c) refl) tt
-visited-keys b (string s) = rw (elements-same b (string s) refl) tt
+visited-keys _ (number n) = count-keys n _
+visited-keys _ (sequence vs) = item-keys vs vs 0 (omega arith)
+visited-keys _ (mapping es) = entry-keys es es (λ k h. h)
+visited-keys _ _ = tt
 
 module _ (base : Base) (N : Names) (means : Means base.defs N) (stops : List (List ℕ)) where
   -- ---- calls

@@ -1,7 +1,7 @@
 -- For the law `runs_safely`: the variables of a run have the shapes that are computed, and so have pipelines.
 use Rattle.std.proofs.Common.{arith, ◌≡◌, ◌∙◌, ◌+◌, ◌-◌, ◌≤◌, ◌<◌, ◌&&◌, ◌||◌, pos, nat_lt, ◌==◌, ◌++◌, ◌⊎◌, inl, inr, not, option_to_list, unwrap_or, ℕ, zero, suc, Bool, true, false, List, [], ◌∷◌, Option, Some, None, Result, Ok, Err, length, drop, map, ap, refl, sym, subst, ok_or, if◌then◌else◌}
 use Rattle.std.proofs.lemmas.List.{append-nil, drop-drop, length-drop}
-use Rattle.std.proofs.lemmas.Bool.{false≢true, and_parts, eqb-true, ltb-true, ltb-false}
+use Rattle.std.proofs.lemmas.Bool.{false≢true, and_parts, or_right, eqb-true, ltb-true, ltb-false}
 use Rattle.std.proofs.lemmas.Bool.Decides.{Decides-eqb, Decides-int_eq}
 use Rattle.std.specs.Ordering.{int_eq}
 use Rattle.std.specs.Option.{option_map, option_map_or, option_and_then}
@@ -58,10 +58,6 @@ use Rattle.tmpl_meaning.proofs.PartLemmas.{by_count, decided}
 -- ---- numbers of items
 
 -- a value has as many items, and so it is there
-or_true : (b : Bool) → (b || true) ≡ true
-or_true true = refl
-or_true false = refl
-
 pub above-zero : (n : ℕ) → not (suc n == 0) ≡ true
 above-zero n = by (suc n == 0) refl
   where
@@ -75,16 +71,13 @@ none-below n h = omega arith
 full-string : (s : List ℕ) (i l : ℕ) → size_of (string s) ≡ Some i → l ≤ i → lets_value (has_least l) (string s) ≡ true
 full-string s i zero e h = refl
 full-string [] i (suc l) e h = let same : 0 ≡ i = cc in absurd (none-below l (subst (λ n. suc l ≤ n) (sym same) h))
-full-string (x ∷ xs) i (suc l) e h = rw (above-zero (length xs)) (or_true (suc l == 0))
+full-string (x ∷ xs) i (suc l) e h = rw (above-zero (length xs)) (or_right (suc l == 0) true refl)
 
 sized-there : (u : Value) (i l : ℕ) → size_of u ≡ Some i → l ≤ i → Shows (has_least l) u
-sized-there nothing i l e h = cc
-sized-there null i l e h = cc
-sized-there (boolean b) i l e h = cc
-sized-there (number n) i l e h = cc
 sized-there (string s) i l e h = (λ x. refl, full-string s i l e h)
 sized-there (mapping es) i l e h = (λ x. refl, tt)
 sized-there (sequence vs) i l e h = let same : length (values_of_items vs) ≡ i = cc in (λ x. refl, omega arith)
+sized-there _ i l e h = cc
 
 full-number : (i : ℕ) → truth (number (pos i)) ≡ true → 1 ≤ i
 full-number zero t = absurd (false≢true t)
@@ -94,22 +87,17 @@ abbrev compare_told : Func → Option Bool → Result Value Cause
 compare_told f o = result_map_both (λ v. v) (call_failed f) (comparison_answer o)
 
 equality-turned : (s : List ℕ) (w : Value) → equality (string s) w ≡ equality w (string s)
-equality-turned s nothing = refl
-equality-turned s null = refl
-equality-turned s (boolean b) = refl
-equality-turned s (number n) = refl
 equality-turned s (string t) = ap Some (bytes-turned s t)
-equality-turned s (sequence vs) = refl
-equality-turned s (mapping es) = refl
+equality-turned s _ = refl
 
 told-truth : (f : Func) (o : Option Bool) (v : Value) (b : Bool) → compare_told f o ≡ Ok v → truth v ≡ b → o ≡ Some b
 told-truth f None v b e t = cc
 told-truth f (Some c) v b e t = let same : boolean c ≡ v = cc in ap Some (ap truth same ∙ t)
 
-one-equal : (o : Option Bool) (b : Bool) → option_and_then (λ equal. if equal then Some true else Some false) o ≡ Some b → o ≡ Some b
-one-equal None b e = cc
-one-equal (Some true) b e = e
-one-equal (Some false) b e = e
+one-equal : (o : Option Bool) → option_and_then (λ equal. if equal then Some true else Some false) o ≡ o
+one-equal None = refl
+one-equal (Some true) = refl
+one-equal (Some false) = refl
 
 opposite-of : (o : Option Bool) (b : Bool) → option_map not o ≡ Some b → o ≡ Some (not b)
 opposite-of None b e = cc
@@ -124,7 +112,7 @@ abbrev compared : Func → Value → Value → Result Value Cause
 compared f v w = (apply_function f (v ∷ w ∷ [])).result
 
 eq-told : (u w v : Value) (c : Bool) → compared func.Eq u w ≡ Ok v → truth v ≡ c → equality u w ≡ Some c
-eq-told u w v c e t = one-equal (equality u w) c (told-truth func.Eq (equal_to_one u (w ∷ [])) v c e t)
+eq-told u w v c e t = sym (one-equal (equality u w)) ∙ told-truth func.Eq (equal_to_one u (w ∷ [])) v c e t
 
 ne-told : (u w v : Value) (c : Bool) → compared func.Ne u w ≡ Ok v → truth v ≡ c → equality u w ≡ Some (not c)
 ne-told u w v c e t = opposite-of (equality u w) c (told-truth func.Ne (option_map not (equality u w)) v c e t)
@@ -860,12 +848,7 @@ module _ (base : Base) (N : Names) (means : Means base.defs N) (top : Value) whe
 
   equality-left : (w : Value) → (equality nothing w ≡ Some (is_nothing w)) × (equality null w ≡ Some (is_nothing w))
   equality-left nothing = (refl, refl)
-  equality-left null = (refl, refl)
-  equality-left (boolean b) = (refl, refl)
-  equality-left (number n) = (refl, refl)
-  equality-left (string s) = (refl, refl)
-  equality-left (sequence vs) = (refl, refl)
-  equality-left (mapping es) = (refl, refl)
+  equality-left _ = (refl, refl)
 
   -- what equals a value that is neither nothing nor null is neither
   equal-thing : (v w : Value) → is_nothing w ≡ false → equality v w ≡ Some true → is_nothing v ≡ false
@@ -889,8 +872,7 @@ module _ (base : Base) (N : Names) (means : Means base.defs N) (top : Value) whe
 
   gone-ok : (r : Result Value Cause) (b : Bool) (v : Value) → (go_on r b (λ w. as_given (Ok (without_null w)))).result ≡ Ok v
       → (w : Value) × (r ≡ Ok w) × (truth w ≡ truth v)
-  gone-ok (Ok w) b v e = let same : without_null w ≡ v = cc in (w, refl, sym (truth-same w) ∙ ap truth same)
-  gone-ok (Err cause) b v e = cc
+  gone-ok r b v e = let g = without-ok r b v e in (g.0, g.1, sym (truth-same g.0) ∙ ap truth g.2)
 
   -- two values that a function gets, and one
   two-ok : (f : Func) (x y : Result Value Cause) (a b c e : Bool) (v : Value)
@@ -981,13 +963,9 @@ module _ (base : Base) (N : Names) (means : Means base.defs N) (top : Value) whe
     operand-counts (group (command os no_command) []) o v is e =
         let c = command_value (place m d env) os None in
         let p = commands_value (place m d env) (command os no_command) None in
-        let g = there-ok c.result c.made_text v (inner-ok p.result p.made_text m v e) in
+        let g = without-ok c.result c.made_text v (inner-ok p.result p.made_text m v e) in
         let l = command-counts os o g.0 is g.1 in
         (l.0, l.1, l.2, l.3, ap without_null l.4 ∙ g.2)
-      where
-        there-ok : (r : Result Value Cause) (b : Bool) (v : Value) → (go_on r b (λ w. as_given (Ok (without_null w)))).result ≡ Ok v → (w : Value) × (r ≡ Ok w) × (without_null w ≡ v)
-        there-ok (Ok w) b v e = (w, refl, cc)
-        there-ok (Err cause) b v e = cc
     operand-counts (group no_command []) o v is e = cc
     operand-counts (group (command _ (command _ _)) []) o v is e = cc
     operand-counts (group _ (_ ∷ _)) o v is e = cc
@@ -1021,9 +999,7 @@ module _ (base : Base) (N : Names) (means : Means base.defs N) (top : Value) whe
     passes-value test (mapping es) e f = tt
     passes-value test nothing e f = tt
     passes-value test null e f = tt
-    passes-value test (string t) e f = f
-    passes-value test (boolean b) e f = f
-    passes-value test (number n) e f = f
+    passes-value test _ e f = f
 
     -- what equals a constant is it, and what differs is not
     same-told : (u w x : Value) (b : Bool) → w ≡ x → equality u w ≡ Some b → is_same u x ≡ b
@@ -1062,7 +1038,7 @@ module _ (base : Base) (N : Names) (means : Means base.defs N) (top : Value) whe
             → (equal_to_one u vs ≡ Some true → (is_nothing u ≡ false) × (is_constant u os ≡ true)) → (is_nothing u ≡ false) × (is_constant u (operand o os) ≡ true)
         by w vs is e None at i more = cc
         by w vs is e (Some true) at i more = (tell-thing true m d env o u w is e at, constant-first u o os w is e at)
-        by w vs is e (Some false) at i more = let r = more i in (r.0, rw r.1 (or_true (is_named u o)))
+        by w vs is e (Some false) at i more = let r = more i in (r.0, rw r.1 (or_right (is_named u o) true refl))
 
     apart-shown : (os : Operands) (ws : List Value) (u : Value) → (operand_values (place m d env) os).result ≡ Ok ws → equal_to_one u ws ≡ Some false
         → is_constant u os ≡ false
@@ -1121,11 +1097,6 @@ module _ (base : Base) (N : Names) (means : Means base.defs N) (top : Value) whe
               passes-value (is_apart os) u refl (ap not (apart-shown os ws u e h)),
             )
 
-    one-more : (o : Option Bool) (b : Bool) → o ≡ Some b → option_and_then (λ equal. if equal then Some true else Some false) o ≡ Some b
-    one-more None b e = cc
-    one-more (Some true) b e = e
-    one-more (Some false) b e = e
-
     constant_test-shown : (c : Bool) (f : Func) (os : Operands) (u : Value) (ws : List Value) (v : Value) (test : Test) → (operand_values (place m d env) os).result ≡ Ok ws
         → (apply_function f (u ∷ ws)).result ≡ Ok v → truth v ≡ c → constant_test c f os ≡ Some test → Shows test u
     constant_test-shown c func.Eq os u [] v test e h t is = cc
@@ -1133,7 +1104,7 @@ module _ (base : Base) (N : Names) (means : Means base.defs N) (top : Value) whe
         equal_test-shown c os (w ∷ ws) u test e (told-truth func.Eq (equal_to_one u (w ∷ ws)) v c h t) is
     constant_test-shown c func.Ne os u [] v test e h t is = cc
     constant_test-shown c func.Ne os u (w ∷ []) v test e h t is =
-        equal_test-shown (not c) os (w ∷ []) u test e (one-more (equality u w) (not c) (ne-told u w v c h t)) is
+        equal_test-shown (not c) os (w ∷ []) u test e (one-equal (equality u w) ∙ ne-told u w v c h t) is
     constant_test-shown c func.Ne os u (w ∷ x ∷ ws) v test e h t is = cc
     constant_test-shown c _ os u ws v test e h t is = cc
 
