@@ -43,10 +43,10 @@ use Rattle.tmpl_schema.proofs.OriginLemmas.{HasOrigin, HasTie, IsAt, IsKeyOf, at
 use Rattle.tmpl_schema.specs.computed.Check.{Known, State, Variable, find_variable, assigned_shape, bound_shapes, refine_variable, all_within, is_split, join_all, join_ties, join_parts, join_to, last_of}
 use Rattle.tmpl_schema.specs.computed.Check.{absent_field, after_both, entry_along, entry_by, operand_shape, indexed_shape, printed_shape, command_shape, pipeline_shape, narrow}
 use Rattle.tmpl_shape.proofs.KindLemmas.{has_kind-has}
-use Rattle.tmpl_shape.proofs.ShapeLemmas.{bytes-turned, same_name, within-has, join-left, join-right}
+use Rattle.tmpl_shape.proofs.ShapeLemmas.{bytes-turned, same_name, within-has}
 use Rattle.tmpl_schema.proofs.NullLemmas.{null_gone-has}
 use Rattle.tmpl_schema.proofs.FormatLemmas.{printf-gives}
-use Rattle.tmpl_schema.proofs.FieldLemmas.{Each, Ends, Gives, IsVisit, Passes, Shows, Visits, any-has, at-entry, both-left, both-right, entry-gives, chain-gives, fill-has, full-thing, only-there, refine-has, visit-gives}
+use Rattle.tmpl_schema.proofs.FieldLemmas.{Each, Ends, Gives, IsVisit, Passes, Shows, Visits, any-has, at-entry, both-give, join-has, entry-gives, chain-gives, fill-has, full-thing, only-there, refine-has, visit-gives}
 use Rattle.tmpl_schema.proofs.PartLemmas.{item-at, part-gives, part_told}
 use Rattle.tmpl_schema.proofs.CallLemmas.{HaveShapes, call-gives}
 use Rattle.tmpl_funcs.specs.Func.{takes}
@@ -263,8 +263,8 @@ module _ (base : Base) (N : Names) (means : Means base.defs N) (top : Value) whe
   joined-has (k ∷ ks) (l ∷ ls) c (v ∷ env) e h =
       let p = was_joined (bytes_eq k.0 l.0) (k.0, join base k.1 l.1, join_ties k.2 l.2) (join_all base ks ls) c e in
       subst (λ (y : Known). HasKnown y (v ∷ env)) p.3 (elim h [
-        | inl x ↦ (x.0, (join-left base N means) k.1 l.1 v.1 x.1, joined-has ks ls p.0 env p.2 (inl x.2), ties-has top k.2 l.2 v.1 (inl x.3))
-        | inr x ↦ (x.0 ∙ sym (same_name k.0 l.0 p.1), (join-right base N means) k.1 l.1 v.1 x.1, joined-has ks ls p.0 env p.2 (inr x.2), ties-has top k.2 l.2 v.1 (inr x.3))
+        | inl x ↦ (x.0, (join-has base N means) k.1 l.1 v.1 (inl x.1), joined-has ks ls p.0 env p.2 (inl x.2), ties-has top k.2 l.2 v.1 (inl x.3))
+        | inr x ↦ (x.0 ∙ sym (same_name k.0 l.0 p.1), (join-has base N means) k.1 l.1 v.1 (inr x.1), joined-has ks ls p.0 env p.2 (inr x.2), ties-has top k.2 l.2 v.1 (inr x.3))
       ])
   joined-has _ _ c env e h = cc
 
@@ -279,15 +279,9 @@ module _ (base : Base) (N : Names) (means : Means base.defs N) (top : Value) whe
             | inr x ↦ (within-has base N means) t r v p.1 x
           ]
 
-      joined-has : HasShape N (join base s t) v
-      joined-has = elim h [
-        | inl x ↦ (join-left base N means) s t v x
-        | inr x ↦ (join-right base N means) s t v x
-      ]
-
       by : (b : Bool) → is_split base r s t ≡ b → HasShape N (if b then r else join base s t) v
       by true e = among (and_parts (not (within base s t || within base t s)) (within base s r && within base t r) e).1
-      by false e = joined-has
+      by false e = (join-has base N means) s t v h
 
   parted-has : (rs a b c : Known) (env : Environment) → join_parts base rs a b ≡ Some c → HasKnown a env ⊎ HasKnown b env → HasKnown c env
   parted-has [] [] [] c env e h = let same : [] ≡ c = cc in subst (λ (y : Known). HasKnown y env) same (elim h [ inl x ↦ x | inr x ↦ x ])
@@ -474,9 +468,9 @@ module _ (base : Base) (N : Names) (means : Means base.defs N) (top : Value) whe
   keyed-gives of_text n fs es h = by (entry_at n es) refl
     where
       by : (o : Option Value) → entry_at n es ≡ o → HasShape N (join base (any_field base fs) nulls) (unwrap_or o null)
-      by None is = (join-right base N means) (any_field base fs) nulls null tt
+      by None is = (join-has base N means) (any_field base fs) nulls null (inr tt)
       by (Some w) is =
-          (join-left base N means) (any_field base fs) nulls w ((any-has base N means) fs n w ((at-entry base N means) (IsField N fs) n w es is h.1))
+          (join-has base N means) (any_field base fs) nulls w (inl ((any-has base N means) fs n w ((at-entry base N means) (IsField N fs) n w es is h.1)))
 
   -- of a list
   item-gives : (key : Key) (n : List ℕ) (least : ℕ) (s : Shape) (vs : Items) → HasShape N (list_of least s) (sequence vs)
@@ -497,10 +491,9 @@ module _ (base : Base) (N : Names) (means : Means base.defs N) (top : Value) whe
   index-gives (suc i) key n (list_of least s) _ h = absurd h
   index-gives (suc i) key n (record_of fs) (mapping es) h = keyed-gives key n fs es h
   index-gives (suc i) key n (record_of fs) _ h = absurd h
-  index-gives (suc i) key n (either s t) v h = elim h [
-    | inl x ↦ (both-left base N means) (index_shape_by base i key s) (index_shape_by base i key t) (told (element_at v (key_value key n))) (index-gives i key n s v x)
-    | inr x ↦ (both-right base N means) (index_shape_by base i key s) (index_shape_by base i key t) (told (element_at v (key_value key n))) (index-gives i key n t v x)
-  ]
+  index-gives (suc i) key n (either s t) v h =
+      (both-give base N means) (index_shape_by base i key s) (index_shape_by base i key t) (told (element_at v (key_value key n)))
+      (elim h [ inl x ↦ inl (index-gives i key n s v x) | inr x ↦ inr (index-gives i key n t v x) ])
   index-gives (suc i) key n (named y) v h = by (base.defs y) refl (λ s. index-gives i key n s v)
     where
       by : (o : Option Shape) → base.defs y ≡ o
@@ -1371,18 +1364,18 @@ module _ (base : Base) (N : Names) (means : Means base.defs N) (top : Value) whe
     junction-step true o os k ps pv fits more s v e h = by (truth v) refl
       where
         by : (b : Bool) → truth v ≡ b → (Gives base N means) (both base (Some (fill base s)) (junction_shape base true m (narrow_operand base false o k) s os ps)) (decided b v (junction true (place m d env) v os pv)).result
-        by true t = (both-left base N means) (Some (fill base s)) (junction_shape base true m (narrow_operand base false o k) s os ps) (Ok v) ((fill-has base N means) s v h t)
+        by true t = (both-give base N means) (Some (fill base s)) (junction_shape base true m (narrow_operand base false o k) s os ps) (Ok v) (inl ((fill-has base N means) s v h t))
         by false t =
-            (both-right base N means) (Some (fill base s)) (junction_shape base true m (narrow_operand base false o k) s os ps) (junction true (place m d env) v os pv).result
-            (more (narrow_operand base false o k) s v (operand-narrows m d env o false k v fits e t) h)
+            (both-give base N means) (Some (fill base s)) (junction_shape base true m (narrow_operand base false o k) s os ps) (junction true (place m d env) v os pv).result
+            (inr (more (narrow_operand base false o k) s v (operand-narrows m d env o false k v fits e t) h))
     junction-step false o os k ps pv fits more s v e h = by (truth v) refl
       where
         by : (b : Bool) → truth v ≡ b → (Gives base N means) (both base (Some s) (junction_shape base false m (narrow_operand base true o k) (fill base s) os ps))
             (decided (not b) v (junction false (place m d env) v os pv)).result
-        by false t = (both-left base N means) (Some s) (junction_shape base false m (narrow_operand base true o k) (fill base s) os ps) (Ok v) h
+        by false t = (both-give base N means) (Some s) (junction_shape base false m (narrow_operand base true o k) (fill base s) os ps) (Ok v) (inl h)
         by true t =
-            (both-right base N means) (Some s) (junction_shape base false m (narrow_operand base true o k) (fill base s) os ps) (junction false (place m d env) v os pv).result
-            (more (narrow_operand base true o k) (fill base s) v (operand-narrows m d env o true k v fits e t) ((fill-has base N means) s v h t))
+            (both-give base N means) (Some s) (junction_shape base false m (narrow_operand base true o k) (fill base s) os ps) (junction false (place m d env) v os pv).result
+            (inr (more (narrow_operand base true o k) (fill base s) v (operand-narrows m d env o true k v fits e t) ((fill-has base N means) s v h t)))
 
     mutual
       operand-gives : (o : Operand) (k : State) → Fits k d env → (Gives base N means) (operand_shape base m k o) (operand_value (place m d env) o).result
