@@ -38,7 +38,7 @@ use Rattle.tmpl_schema.specs.computed.Check.{Fact, call_counts, call_fact, comma
 use Rattle.tmpl_schema.specs.computed.Check.{operand_counts, are_constants, is_nil_alone, equal_test, constant_test, pair_fact, compare_fact, turned_fact, piped_fact, tells, narrow_all, narrow_as, narrow_by, narrow_command, narrow_operand, narrow_to}
 use Rattle.tmpl_schema.specs.computed.Check.{are_texts, bounds_of, sliced_shape, call_place, chain_place, index_place, texts_in, deciding_shape, passing_shape, passed, operand_shapes, junction_shape, commands_shape}
 use Rattle.tmpl_schema.specs.computed.Check as check
-use Rattle.tmpl_schema.specs.computed.Check.{Origin, Tie, keyed, key_tie, narrow_from, narrow_root, operand_origin, own_entry, path_of, tie_of, tie_within, pipeline_origin, pipeline_place, place_of, place_origin, refine_all, refine_along, refine_from, rest_of, root_origin}
+use Rattle.tmpl_schema.specs.computed.Check.{Origin, Tie, keyed, key_tie, narrow_from, narrow_root, operand_origin, own_entry, path_of, tie_of, tie_within, pipeline_origin, pipeline_place, place_of, place_origin, refine_all, refine_from, rest_of, root_origin}
 use Rattle.tmpl_schema.proofs.OriginLemmas.{HasOrigin, HasTie, IsAt, IsKeyOf, at-chain, at-gone, at-joined, at-rest, at-root, path-has, rest_of-is, tie_within-has, tied, ties-has}
 use Rattle.tmpl_schema.specs.computed.Check.{Known, State, Variable, find_variable, assigned_shape, bound_shapes, refine_variable, all_within, is_split, join_all, join_ties, join_parts, join_to, last_of}
 use Rattle.tmpl_schema.specs.computed.Check.{absent_field, after_both, entry_along, entry_by, operand_shape, indexed_shape, printed_shape, command_shape, pipeline_shape, narrow}
@@ -367,7 +367,7 @@ module _ (base : Base) (N : Names) (means : Means base.defs N) (top : Value) whe
   along-has test ns t None s y h i = h
   along-has test ns t (Some ps) s y h i = by (rest_of ps ns) refl
     where
-      by : (r : Option (List (List ℕ))) → rest_of ps ns ≡ r → HasShape N (refine_along base test ns s r) y
+      by : (r : Option (List (List ℕ))) → rest_of ps ns ≡ r → HasShape N (option_map_or (λ ms. refine base test ms s) r s) y
       by None is = h
       by (Some ms) is =
           (refine-has base N means) test s ms y h (rest-ends test ps ms y i (subst (λ (qs : List (List ℕ)). Ends test qs top) (rest_of-is ps ns ms is) t))

@@ -90,10 +90,7 @@ pub(crate) fn key_of(operand: &Operand) -> Option<Key<'_>>
 {
     match operand {
         Operand::Text(text) => Some(Key::Name(text.as_slice())),
-        Operand::Number(_) => match count_of(operand) {
-            Some(place) => Some(Key::Place(place)),
-            None => None,
-        },
+        Operand::Number(_) => Some(Key::Place(count_of(operand)?)),
         Operand::Dot | Operand::Fields(_) | Operand::Variable { .. } => None,
         Operand::Bool(_) | Operand::Nil | Operand::Function(_) | Operand::Group { .. } => None,
     }

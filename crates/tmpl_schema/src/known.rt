@@ -6,7 +6,7 @@ ghost use Rattle.std.specs.Option.{option_map};
 ghost use Rattle.tmpl_grammar.specs.View.{binding_of};
 ghost use Rattle.tmpl_shape.specs.View.{shape_of};
 ghost use Rattle.tmpl_schema.specs.computed.Check.{after_both, after_parts, all_within, assigned_shape, bound_shapes, find_variable, holds_loop, join_all, join_parts, join_to};
-ghost use Rattle.tmpl_schema.specs.computed.Check.{last_of, refine_all, refine_along, refine_from, refine_variable, rest_of};
+ghost use Rattle.tmpl_schema.specs.computed.Check.{last_of, refine_all, refine_from, refine_variable};
 ghost use Rattle.tmpl_shape.specs.computed.Shapes.{join};
 ghost use Rattle.tmpl_shape.specs.computed.View.{base_of, test_seen};
 ghost use Rattle.tmpl_schema.specs.computed.View.{is_longer, known_of, known_seen, origin_of, tie_seen, variable_of};
@@ -247,36 +247,22 @@ pub(crate) fn refine_variable(
     }
 }
 
-/// The values at a chain from the data of the template, where another is so.
-fn refine_along(
-    base: &Base<'_>,
-    test: Test<'_>,
-    names: &[Bytes],
-    path: &[Bytes],
-    shape: &Rc<Shape>,
-) -> Result<Rc<Shape>, AllocError>
-    ensures { IfOk result (λ s. shape_of s.value ≡ refine_along (base_of base.now) (test_seen test.entry) names.now
-        (shape_of shape.now.value) (rest_of path.now names.now)) }
-{
-    match rest_of(path, names) {
-        Some(rest) => Ok(Rc::new(base.alloc, refine(base, test, rest, shape)?)?),
-        None => Rc::clone(shape),
-    }
-}
-
 /// The values of a provenance, where a chain from the data of the template is so.
 pub(crate) fn refine_from(
     base: &Base<'_>,
     test: Test<'_>,
     names: &[Bytes],
-    origin: &Option<Vec<Bytes>>,
+    origin: Option<&[Bytes]>,
     shape: &Rc<Shape>,
 ) -> Result<Rc<Shape>, AllocError>
-    ensures { IfOk result (λ s. shape_of s.value
-        ≡ refine_from (base_of base.now) (test_seen test.entry) names.now (origin_of origin.now) (shape_of shape.now.value)) }
+    ensures { IfOk result (λ s. shape_of s.value ≡ refine_from (base_of base.now) (test_seen test.entry) names.now
+        (option_map (λ p. p.now) origin.entry) (shape_of shape.now.value)) }
 {
-    match origin {
-        Some(path) => refine_along(base, test, names, path.as_slice(), shape),
+    let Some(path) = origin else {
+        return Rc::clone(shape);
+    };
+    match rest_of(path, names) {
+        Some(rest) => Ok(Rc::new(base.alloc, refine(base, test, rest, shape)?)?),
         None => Rc::clone(shape),
     }
 }
@@ -295,16 +281,7 @@ pub(crate) fn refine_all(
     match known {
         Known::Empty => Ok(Known::Empty),
         Known::More(newest) => {
-            let shape = match &newest.tie {
-                Tie::Valued(path) => refine_along(
-                    base,
-                    test,
-                    names,
-                    path.as_slice(),
-                    &newest.shape,
-                )?,
-                Tie::Untied | Tie::Keyed(_) => Rc::clone(&newest.shape)?,
-            };
+            let shape = refine_from(base, test, names, newest.tie.path(), &newest.shape)?;
             let tie = newest.tie.copy(base.alloc)?;
             let older = refine_all(base, test, names, &newest.older)?;
             put_variable(base.alloc, newest.name.as_slice(), shape, tie, older)

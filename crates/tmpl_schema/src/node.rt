@@ -394,8 +394,7 @@ pub(crate) fn after_node(
         NodeKind::Text(_) => Ok(After::past(copy_known(&state.known)?)),
         NodeKind::Action(header) => after_action(checker, state, header),
         NodeKind::Control(control) => after_control(checker, head, state, control),
-        NodeKind::Break => Ok(leave_with(&checker.base, &state.known, head)?),
-        NodeKind::Continue => Ok(leave_with(&checker.base, &state.known, head)?),
+        NodeKind::Break | NodeKind::Continue => Ok(leave_with(&checker.base, &state.known, head)?),
         NodeKind::Template(name, given) => after_call(checker, state, name, given),
     }
 }

@@ -4,7 +4,7 @@
 ghost use Rattle.std.specs.Prelude.{◌≡◌, ◌++◌, IfOk, OnOk};
 ghost use Rattle.std.specs.Option.{option_map};
 ghost use Rattle.tmpl_grammar.specs.View.{operands_in};
-ghost use Rattle.tmpl_schema.specs.computed.Check.{is_path, join_ties, key_tie, rest_of, texts_in, tie_of, tie_within};
+ghost use Rattle.tmpl_schema.specs.computed.Check.{is_path, join_ties, key_tie, path_of, rest_of, texts_in, tie_of, tie_within};
 ghost use Rattle.tmpl_schema.specs.computed.View.{origin_of, place_seen, tie_seen};
 
 use crate::facts::{Place, text_of};
@@ -44,6 +44,16 @@ impl Tie {
         }
     }
 
+    /// The chain at which the value of the variable is, if that is known.
+    pub(crate) fn path(&self) -> Option<&[Bytes]>
+        ensures { option_map (λ p. p.now) result ≡ path_of (tie_seen self.now) }
+    {
+        match self {
+            Tie::Valued(path) => Some(path.as_slice()),
+            Tie::Untied | Tie::Keyed(_) => None,
+        }
+    }
+
     /// A copy of it.
     pub(crate) fn copy(&self, alloc: Global) -> Result<Tie, AllocError>
         ensures { IfOk result (λ t. tie_seen t ≡ tie_seen self.now) }
@@ -63,8 +73,7 @@ impl Tie {
             (_, Tie::Untied) => true,
             (Tie::Valued(path), Tie::Valued(names)) => is_path(path.as_slice(), names.as_slice()),
             (Tie::Keyed(path), Tie::Keyed(names)) => is_path(path.as_slice(), names.as_slice()),
-            (Tie::Untied | Tie::Keyed(_), Tie::Valued(_)) => false,
-            (Tie::Untied | Tie::Valued(_), Tie::Keyed(_)) => false,
+            _ => false,
         }
     }
 

@@ -440,11 +440,8 @@ module _ (base : Base) where
       if bytes_eq k.0 name then (k.0, refine base test ns k.1, k.2) ∷ ks else k ∷ refine_variable test name ns ks
 
   -- the values of a provenance, where this chain from the data of the template is so
-  abbrev pub refine_along : Test → List (List ℕ) → Shape → Option (List (List ℕ)) → Shape
-  refine_along test ns s rest = option_map_or (λ ms. refine base test ms s) rest s
-
   abbrev pub refine_from : Test → List (List ℕ) → Origin → Shape → Shape
-  refine_from test ns o s = refine_along test ns s (option_and_then (λ ps. rest_of ps ns) o)
+  refine_from test ns o s = option_map_or (λ ms. refine base test ms s) (option_and_then (λ ps. rest_of ps ns) o) s
 
   abbrev pub refine_all : Test → List (List ℕ) → Known → Known
   refine_all test ns [] = []
