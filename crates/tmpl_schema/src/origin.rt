@@ -29,7 +29,7 @@ impl Tie {
         ensures { IfOk result (λ t. tie_seen t ≡ tie_of (origin_of origin.now)) }
     {
         match origin {
-            Some(path) => Ok(Tie::Valued(join_paths(alloc, path.as_slice(), &[])?)),
+            Some(path) => Ok(Tie::Valued(copy_path(alloc, path.as_slice())?)),
             None => Ok(Tie::Untied),
         }
     }
@@ -39,7 +39,7 @@ impl Tie {
         ensures { IfOk result (λ t. tie_seen t ≡ key_tie (origin_of over.now)) }
     {
         match over {
-            Some(path) => Ok(Tie::Keyed(join_paths(alloc, path.as_slice(), &[])?)),
+            Some(path) => Ok(Tie::Keyed(copy_path(alloc, path.as_slice())?)),
             None => Ok(Tie::Untied),
         }
     }
@@ -60,8 +60,8 @@ impl Tie {
     {
         match self {
             Tie::Untied => Ok(Tie::Untied),
-            Tie::Valued(path) => Ok(Tie::Valued(join_paths(alloc, path.as_slice(), &[])?)),
-            Tie::Keyed(path) => Ok(Tie::Keyed(join_paths(alloc, path.as_slice(), &[])?)),
+            Tie::Valued(path) => Ok(Tie::Valued(copy_path(alloc, path.as_slice())?)),
+            Tie::Keyed(path) => Ok(Tie::Keyed(copy_path(alloc, path.as_slice())?)),
         }
     }
 
@@ -119,27 +119,27 @@ fn put_texts(alloc: Global, operands: &[Operand], names: &mut Vec<Bytes>) -> Res
     }
 }
 
-/// The names that lead to a place from its root.
-pub(crate) fn place_path(alloc: Global, place: &Place<'_>) -> Result<Vec<Bytes>, AllocError>
-    ensures { IfOk result (λ path. path.items ≡ (place_seen place.now).path) }
+/// The names that lead to the root of a place, and from there to the place.
+#[tactic(auto, using(std::proofs::lemmas::Grind::common_steps))]
+pub(crate) fn place_path(
+    alloc: Global,
+    root: &[Bytes],
+    place: &Place<'_>,
+) -> Result<Vec<Bytes>, AllocError>
+    ensures { IfOk result (λ path. path.items ≡ root.now ++ (place_seen place.now).path) }
 {
-    let mut names: Vec<Bytes> = Vec::new(alloc);
+    let mut names = copy_path(alloc, root)?;
     put_path(alloc, place.fields, &mut names)?;
     put_texts(alloc, place.keys, &mut names)?;
     Ok(names)
 }
 
-/// A copy of a chain, with one after it.
-pub(crate) fn join_paths(
-    alloc: Global,
-    path: &[Bytes],
-    more: &[Bytes],
-) -> Result<Vec<Bytes>, AllocError>
-    ensures { IfOk result (λ all. all.items ≡ path.now ++ more.now) }
+/// A copy of a chain.
+fn copy_path(alloc: Global, path: &[Bytes]) -> Result<Vec<Bytes>, AllocError>
+    ensures { IfOk result (λ names. names.items ≡ path.now) }
 {
     let mut names: Vec<Bytes> = Vec::new(alloc);
     put_path(alloc, path, &mut names)?;
-    put_path(alloc, more, &mut names)?;
     Ok(names)
 }
 
@@ -151,7 +151,7 @@ pub(crate) fn copy_origin(
     ensures { IfOk result (λ o. origin_of o ≡ origin_of origin.now) }
 {
     match origin {
-        Some(path) => Ok(Some(join_paths(alloc, path.as_slice(), &[])?)),
+        Some(path) => Ok(Some(copy_path(alloc, path.as_slice())?)),
         None => Ok(None),
     }
 }

@@ -17,7 +17,7 @@ use crate::facts::{
 use crate::known::{
     Known, copy_known, find_variable, put_variable, refine_all, refine_from, refine_variable,
 };
-use crate::origin::{Tie, copy_origin, join_paths, place_path};
+use crate::origin::{Tie, copy_origin, place_path};
 use std::alloc::{AllocError, Global};
 use std::rc::Rc;
 use tmpl_funcs::Func;
@@ -90,10 +90,7 @@ fn place_origin(
         return Ok(None);
     };
     match root_origin(state, place.root) {
-        Some(path) => {
-            let names = place_path(alloc, &place)?;
-            Ok(Some(join_paths(alloc, path, names.as_slice())?))
-        }
+        Some(path) => Ok(Some(place_path(alloc, path, &place)?)),
         None => Ok(None),
     }
 }
@@ -131,7 +128,7 @@ fn narrow_root(
         ≡ narrow_root (base_of base.now) (test_seen test.entry) (place_seen place.now) (state_of state.now)) }
 {
     let origin = copy_origin(base.alloc, &state.origin)?;
-    let path = place_path(base.alloc, place)?;
+    let path = place_path(base.alloc, &[], place)?;
     let names = path.as_slice();
     match place.root {
         None => {
