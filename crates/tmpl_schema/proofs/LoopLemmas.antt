@@ -8,11 +8,11 @@ use Rattle.tmpl_values.specs.Value.{Value, nothing}
 use Rattle.tmpl_values.specs.Text.{text_of}
 use Rattle.tmpl_values.specs.Truth.{truth}
 use Rattle.tmpl_funcs.specs.declared.func.Func.TheVariants.{Slice}
-use Rattle.tmpl_grammar.specs.Tree.{Operand, dot, fields, variable, group, function, Operands, no_operand, operand, Pipeline, no_command, command, Binding, unbound, assign, declare, declare_pair, Header}
+use Rattle.tmpl_grammar.specs.Tree.{Operand, dot, fields, variable, group, function, Operands, no_operand, operand, Pipeline, no_command, command, Binding, unbound, assign, Header}
 use Rattle.tmpl_grammar.specs.declared.tree.Control.{Control}
 use Rattle.tmpl_grammar.specs.declared.tree.Control.TheVariants as control
 use Rattle.tmpl_syntax.specs.Tree as tree
-use Rattle.tmpl_syntax.specs.Tree.{Tree, action, control_node, template_node, break_node, continue_node, Nodes}
+use Rattle.tmpl_syntax.specs.Tree.{Tree, action, control_node, template_node, Nodes}
 use Rattle.tmpl_syntax.specs.Set.{Template}
 use Rattle.tmpl_meaning.specs.Fault.{Cause}
 use Rattle.tmpl_meaning.specs.Pipeline.{Environment, commands_value}
@@ -109,9 +109,7 @@ module _ (base : Base) (N : Stands) (means : Means base.defs N) (set : List Temp
     stay (going None false) h = h
     stay (going (Some t) true) h = h
     stay (stopped name) h = h
-    stay (going None true) h = absurd h
-    stay (going (Some t) false) h = absurd h
-    stay refused h = absurd h
+    stay _ h = absurd h
 
     chosen : (q : Pipeline) → Valued q → (t u : Turn) → IsFine t → IsFine u → IsFine (choosing (value q) t u)
     chosen q h t u ft fu =
@@ -162,8 +160,7 @@ module _ (base : Base) (N : Stands) (means : Means base.defs N) (set : List Temp
     act-more xs more (assign name) q kept anew h put e =
         let test : (bytes_eq p.new name && is_yes (lone q)) ≡ true = λ i. not-false (bytes_eq p.new name) h.0 i && h.1 i in
         subst (λ (c : Bool). IsFine (going_on (if c then going put true else refused) (after_nodes n value xs))) (sym test) (more kept true h.2 put e)
-    act-more xs more (declare name) q kept anew h put e = absurd h
-    act-more xs more (declare_pair key name) q kept anew h put e = absurd h
+    act-more xs more _ q kept anew h put e = absurd h
 
     choice-more : (c : Control) (h : Header) (xs body other : Nodes) (kept anew : Bool) → More body → More other
         → Chooses base set stops n p.byte k c h xs (EndsWell base set stops n p.byte k body kept anew) (EndsWell base set stops n p.byte k other kept anew)
@@ -173,9 +170,7 @@ module _ (base : Base) (N : Stands) (means : Means base.defs N) (set : List Temp
         let turn = choosing (value h.pipeline) (after_nodes n value body put anew) (after_nodes n value other put anew) in
         subst (λ (bound : Binding). IsFine (going_on (branching control.If bound turn) (after_nodes n value tree.none))) (sym e.0)
         (stay turn (chosen h.pipeline e.1 (after_nodes n value body put anew) (after_nodes n value other put anew) (f kept anew e.2 put is) (g kept anew e.3 put is)))
-    choice-more control.If h (tree.then line y ys) body other kept anew f g e put is = absurd e
-    choice-more control.With h xs body other kept anew f g e put is = absurd e
-    choice-more control.Range h xs body other kept anew f g e put is = absurd e
+    choice-more _ h xs body other kept anew f g e put is = absurd e
 
     ends-fine : (ns : Nodes) → More ns
     ends-fine tree.none kept anew h put e = at-end put kept anew e h
@@ -184,8 +179,7 @@ module _ (base : Base) (N : Stands) (means : Means base.defs N) (set : List Temp
     ends-fine (tree.then line (control_node c h body other) xs) kept anew g put e =
         choice-more c h xs body other kept anew (ends-fine body) (ends-fine other) g put e
     ends-fine (tree.then line (template_node name given) xs) kept anew g put e = g
-    ends-fine (tree.then line break_node xs) kept anew g put e = absurd g
-    ends-fine (tree.then line continue_node xs) kept anew g put e = absurd g
+    ends-fine (tree.then line _ xs) kept anew g put e = absurd g
 
 module _ (base : Base) (N : Stands) (means : Means base.defs N) (set : List Template) (stops : List (List ℕ)) (t : Tree) where
   of-parts : (p : Parts) → parts_of t.nodes ≡ Some p → AreLoop base set stops p → IsCopyLoop set stops t

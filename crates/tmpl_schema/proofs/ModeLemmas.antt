@@ -10,7 +10,7 @@ use Rattle.tmpl_grammar.specs.Tree.{Pipeline, no_command, command, Header}
 use Rattle.tmpl_grammar.specs.declared.tree.Control.{Control}
 use Rattle.tmpl_grammar.specs.declared.tree.Control.TheVariants as control
 use Rattle.tmpl_syntax.specs.Tree as tree
-use Rattle.tmpl_syntax.specs.Tree.{NodeKind, text, action, control_node, break_node, continue_node, template_node}
+use Rattle.tmpl_syntax.specs.Tree.{NodeKind, text, action, control_node, template_node}
 use Rattle.tmpl_syntax.specs.Tree.{Nodes}
 use Rattle.tmpl_syntax.specs.Set.{Template}
 use Rattle.tmpl_funcs.specs.Func.{takes}
@@ -246,10 +246,9 @@ module _ (base : Base) (m : MissingKey) (table : Table) where
         (then-keeps _ _ _ _
         (control-keeps base h k (past_parts c table body other) c loop _ _ _ _ (λ l u. nodes-keep body l None u) (λ u. nodes-keep other loop None u))
         (pipeline-keeps base m h.pipeline k)) tt
-    node-keeps break_node loop k = keeps-same (leave_with k.env loop)
-    node-keeps continue_node loop k = keeps-same (leave_with k.env loop)
     node-keeps (template_node name given) loop k =
         same-keeps _ _ (table name) (λ c. call-keeps base c k.env _ _ (given-keeps given k))
+    node-keeps _ loop k = keeps-same (leave_with k.env loop)
 
     nodes-keep : (ns : Nodes) (loop left : Option Known) (k : State)
         → Keeps (after_nodes base Error table loop left k ns) (after_nodes base m table loop left k ns)

@@ -19,7 +19,7 @@ use Rattle.tmpl_grammar.specs.Tree.{Pipeline, Binding, unbound, declare_pair, He
 use Rattle.tmpl_grammar.specs.declared.tree.Control.{Control}
 use Rattle.tmpl_grammar.specs.declared.tree.Control.TheVariants as control
 use Rattle.tmpl_syntax.specs.Tree as tree
-use Rattle.tmpl_syntax.specs.Tree.{NodeKind, Nodes, Tree, text, action, control_node, break_node, continue_node, template_node}
+use Rattle.tmpl_syntax.specs.Tree.{NodeKind, Nodes, Tree, text, action, control_node, template_node}
 use Rattle.tmpl_syntax.specs.Set.{Template, tree_named}
 use Rattle.tmpl_meaning.specs.Fault.{Cause, no_template, steps_spent}
 use Rattle.tmpl_meaning.specs.Meaning.{Calls, End, Next, Rules, Run, Setting, broke, continued, calls_within, done, fault_of, faulted}
@@ -181,8 +181,7 @@ module _ (base : Base) (N : Names) (means : Means base.defs N) (stops : List (Li
       → (end ≡ done → (HasKnown base N means top) middle.env q.env → Ends loop out (go q)) → EndsSo loop middle end q.env → Ends loop out (on_end end q go)
   after-ends loop middle out go q done kept h e = h refl e
   after-ends loop middle out go q (faulted f) kept h e = e
-  after-ends loop middle out go q broke kept h e = kept e
-  after-ends loop middle out go q continued kept h e = kept e
+  after-ends loop middle out go q _ kept h e = kept e
 
   loop-length : (head : Known) (ks : Known) → holds_loop (Some head) ks ≡ true → length head ≤ length ks
   loop-length head ks h = search rules
@@ -202,11 +201,8 @@ module _ (base : Base) (N : Names) (means : Means base.defs N) (stops : List (Li
       f refl _ (subst (λ (n : ℕ). (HasKnown base N means top) (last_of (length ks) inner.env) (last_of n env)) ((known-length base N means top) ks env0 k)
       ((last-known base N means top) (length ks) inner.env env e))
   scope-ends loop ks inner out env0 k holds (faulted c) env kept f e = e
-  scope-ends None ks inner out env0 k holds broke env kept f e = absurd e
-  scope-ends None ks inner out env0 k holds continued env kept f e = absurd e
-  scope-ends (Some head) ks inner out env0 k holds broke env kept f e =
-      in-scope head out.left env0 env (subst (λ (n : ℕ). length head ≤ n) ((known-length base N means top) ks env0 k) (loop-length head ks holds)) (kept env e)
-  scope-ends (Some head) ks inner out env0 k holds continued env kept f e =
+  scope-ends None ks inner out env0 k holds _ env kept f e = absurd e
+  scope-ends (Some head) ks inner out env0 k holds _ env kept f e =
       in-scope head out.left env0 env (subst (λ (n : ℕ). length head ≤ n) ((known-length base N means top) ks env0 k) (loop-length head ks holds)) (kept env e)
 
   -- ---- pipelines
@@ -565,12 +561,8 @@ module _ (base : Base) (N : Names) (means : Means base.defs N) (stops : List (Li
         by (Some c) t e = fault-past (s.calls name) c (calls name c t) e line go r is
 
     node-past : (n : NodeKind) → diverges table n ≡ true → (line : ℕ) (d : Value) (r : Run) → (stepped s line n d r).1 ≡ done → ⊥
-    node-past break_node e line d r is = cc
-    node-past continue_node e line d r is = cc
     node-past (template_node name given) e line d r is = absent-past name e line (handing s line given d) r is
-    node-past (text bytes) e line d r is = cc
-    node-past (action h) e line d r is = cc
-    node-past (control_node c h body other) e line d r is = cc
+    node-past _ e line d r is = cc
 
     -- what follows from the end of a node follows from that of its step
     spend-past : (T : Type 0) (line : ℕ) (go : Next) (r : Run) → ((left : ℕ) → (go (record r { left = left })).1 ≡ done → T) → (spend s line go r).1 ≡ done → T
@@ -582,9 +574,7 @@ module _ (base : Base) (N : Names) (means : Means base.defs N) (stops : List (Li
 
     end-past : (end : End) (q : Run) (go : Next) → (on_end end q go).1 ≡ done → (end ≡ done) × ((go q).1 ≡ done)
     end-past done q go e = (refl, e)
-    end-past (faulted f) q go e = cc
-    end-past broke q go e = cc
-    end-past continued q go e = cc
+    end-past _ q go e = cc
 
     some-past : (ns : Nodes) → any_diverges table ns ≡ true → (d : Value) (r : Run) → (meanings s ns d r).1 ≡ done → ⊥
     some-past tree.none e d r is = cc
@@ -608,13 +598,12 @@ module _ (base : Base) (N : Names) (means : Means base.defs N) (stops : List (Li
         by false e false f = tt
 
     never-past-in : (c : Control) (body other : Nodes) → NeverPastIn c (past_parts c table body other) (meanings s body) (meanings s other)
-    never-past-in control.If body other = never-past body other
-    never-past-in control.With body other = never-past body other
     never-past-in control.Range body other = by (any_diverges table other) refl
       where
         by : (b : Bool) → any_diverges table other ≡ b → NeverPastIn control.Range (if b then Body else Both) (meanings s body) (meanings s other)
         by true e = λ d r. some-past other e d r
         by false e = tt
+    never-past-in _ body other = never-past body other
 
     -- where a range is done past which a run comes only by its body, dot is what its pipeline shows
     range-dot : (w : FallThrough) (h : Header) (line : ℕ) (k : State) (body other : Value → Next) → NeverPastIn control.Range w body other
@@ -654,11 +643,6 @@ module _ (base : Base) (N : Names) (means : Means base.defs N) (stops : List (Li
     -- .. and after each node
     step-dot : (n : NodeKind) (line : ℕ) (loop : Option Known) (k : State) (out : After) → after_node base s.rules.missing_key table loop k n ≡ Some out
         → (d : Value) (r : Run) → (Fits base N means top) k d r.env → (stepped s line n d r).1 ≡ done → HasShape N (dot_after base table k n) d
-    step-dot (text bytes) line loop k out e d r fits is = fits.0
-    step-dot (action h) line loop k out e d r fits is = fits.0
-    step-dot break_node line loop k out e d r fits is = fits.0
-    step-dot continue_node line loop k out e d r fits is = fits.0
-    step-dot (template_node name given) line loop k out e d r fits is = fits.0
     step-dot (control_node c h body other) line loop k out e d r fits is =
         let p = was_open (holds_loop loop k.env) _ out e in
         option_and_then_some _ (pipeline_shape base s.rules.missing_key k h.pipeline) out p.1 (λ sh issh rest.
@@ -676,6 +660,7 @@ module _ (base : Base) (N : Names) (means : Means base.defs N) (stops : List (Li
             choice-dot (fall_through table body other) control.If h k (meanings s body) (meanings s other) (never-past body other) d r fits v made value is
         by control.With v made value is =
             choice-dot (fall_through table body other) control.With h k (meanings s body) (meanings s other) (never-past body other) d r fits v made value is
+    step-dot _ line loop k out e d r fits is = fits.0
 
     left-kept : (ns : Nodes) (loop left : Option Known) (k : State) (out : After) → after_nodes base s.rules.missing_key table loop left k ns ≡ Some out
         → (env : Environment) → InLoop loop left env → InLoop loop out.left env
@@ -707,9 +692,8 @@ module _ (base : Base) (N : Names) (means : Means base.defs N) (stops : List (Li
           (controlled s line c h.binding d (meanings s body) (meanings s other d)) k sh r fits issh
           (control-ends w s line c h k loop f g (meanings s body) (meanings s other) sh out rest p.0 (λ l. nodes-end body l None) (nodes-end other loop None)
           (never-past-in c body other) d r fits))
-      stepped-ends break_node line loop k out is d r fits = left-ends loop k.env out r.env is fits.1
-      stepped-ends continue_node line loop k out is d r fits = left-ends loop k.env out r.env is fits.1
       stepped-ends (template_node name given) line loop k out is d r fits = template-ends line name given loop k out is d r fits
+      stepped-ends _ line loop k out is d r fits = left-ends loop k.env out r.env is fits.1
 
       pub nodes-end : (ns : Nodes) (loop left : Option Known) → PartHas loop (λ k. after_nodes base s.rules.missing_key table loop left k ns) (meanings s ns)
       nodes-end tree.none loop left k out is d r fits =
@@ -797,7 +781,6 @@ module _ (base : Base) (N : Names) (means : Means base.defs N) (stops : List (Li
                     may (steps_spent n) e = tt
                     may (no_template name) e = stop-is c constants is e.1 name e.4
                     may _ e = absurd e
-                ends-quiet c constants bytes is t q broke e = absurd e
-                ends-quiet c constants bytes is t q continued e = absurd e
+                ends-quiet c constants bytes is t q _ e = absurd e
         by absent x inner =
             subst (λ (o : Option Tree). (CalleeHas base N means stops) absent (run_called rules (calls_within rules set depth) name o)) (sym x.0) x.1

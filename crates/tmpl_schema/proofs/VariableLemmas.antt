@@ -677,17 +677,21 @@ module _ (base : Base) (N : Names) (means : Means base.defs N) (top : Value) whe
   key-values m d env (operand (text_constant n) os) e = rw (key-values m d env os e) refl
   key-values m d env (operand _ os) e = absurd (false≢true e)
 
+  -- a value and those that a function gets with it
+  called-ok : (f : Func) (x : Result Value Cause) (rs : Result (List Value) Cause) (a b c : Bool) (v : Value)
+      → (go_on (go_on x a (λ u. go_on rs b (λ vs. as_given (Ok (u ∷ vs))))).result c (λ vs. apply_function f (vs ++ []))).result ≡ Ok v
+      → (u : Value) × (ws : List Value) × (x ≡ Ok u) × (rs ≡ Ok ws) × ((apply_function f (u ∷ ws)).result ≡ Ok v)
+  called-ok f (Ok u) (Ok ws) a b c v e = (u, ws, refl, refl, subst (λ (js : List Value). (apply_function f (u ∷ js)).result ≡ Ok v) (append-nil ws) e)
+  called-ok f (Ok u) (Err cause) a b c v e = cc
+  called-ok f (Err cause) rs a b c v e = cc
+
   -- a value and its keys
   keys-ok : (x : Result Value Cause) (rs : Result (List Value) Cause) (a b c : Bool) (is : List Value) (v : Value) → rs ≡ Ok is
       → (go_on (go_on x a (λ u. go_on rs b (λ vs. as_given (Ok (u ∷ vs))))).result c (λ vs. apply_function func.Index (vs ++ []))).result ≡ Ok v
       → (u : Value) × (x ≡ Ok u) × (indexed_by u is ≡ Ok v)
-  keys-ok (Err cause) rs a b c is v same e = cc
-  keys-ok (Ok u) rs a b c is v same e = (
-    u,
-    refl,
-    by u (subst (λ (js : List Value). (apply_function func.Index (u ∷ js)).result ≡ Ok v) (append-nil is)
-        (subst (λ (q : Result (List Value) Cause). (go_on (go_on q b (λ vs. as_given (Ok (u ∷ vs)))).result c (λ vs. apply_function func.Index (vs ++ []))).result ≡ Ok v) same e)),
-  )
+  keys-ok x rs a b c is v same e =
+      let g = called-ok func.Index x rs a b c v e in
+      let keys : g.1 ≡ is = cc in (g.0, g.2, by g.0 (subst (λ (js : List Value). (apply_function func.Index (g.0 ∷ js)).result ≡ Ok v) keys g.4))
     where
       found-ok : (r : Result Value CallFault) → result_map_both (λ w. w) (call_failed func.Index) r ≡ Ok v → r ≡ Ok v
       found-ok (Ok w) e = let it : w ≡ v = cc in ap Ok it
@@ -744,16 +748,14 @@ module _ (base : Base) (N : Names) (means : Means base.defs N) (top : Value) whe
   inner-ok (Err cause) b m v e = cc
 
   operand-placed : (m : MissingKey) (o : Operand) (d : Value) (env : Environment) (v : Value) → (operand_value (place m d env) o).result ≡ Ok v → IsPlaced d env (place_of o) v
+  operand-placed m (group _ (_ ∷ _)) d env v e = tt
   operand-placed m (group (command (operand (function f) os) no_command) []) d env v e =
       let c = command_value (place m d env) (operand (function f) os) None in
       let p = commands_value (place m d env) (command (operand (function f) os) no_command) None in
       let g = without-ok c.result c.made_text v (inner-ok p.result p.made_text m v e) in
       subst (λ (x : Value). IsPlaced d env (call_place f os) x) g.2 (gone-placed d env (call_place f os) g.0 (call-placed m f os d env g.0 g.1))
-  operand-placed m (group p (n ∷ ns)) d env v e = tt
-  operand-placed m (group no_command []) d env v e = tt
-  operand-placed m (group (command no_operand no_command) []) d env v e = tt
-  operand-placed m (group (command (operand _ os) no_command) []) d env v e = tt
-  operand-placed m (group (command os (command us cs)) []) d env v e = tt
+  operand-placed m (group (command _ (command _ _)) []) d env v e = tt
+  operand-placed m (group _ []) d env v e = tt
   operand-placed m o d env v e = chain-placed m o [] d env v v e (at-root v)
 
   pipeline-placed : (m : MissingKey) (p : Pipeline) (d : Value) (env : Environment) (v : Value) → (commands_value (place m d env) p None).result ≡ Ok v
@@ -768,10 +770,8 @@ module _ (base : Base) (N : Names) (means : Means base.defs N) (top : Value) whe
       let g = without-ok c.result c.made_text v e in
       subst (λ (x : Value). IsPlaced d env (place_of o) x) g.2 (gone-placed d env (place_of o) g.0 (operand-placed m o d env g.0 g.1))
   pipeline-placed m (command (operand _ (operand _ _)) no_command) d env v e = tt
-  pipeline-placed m (command no_operand no_command) d env v e = tt
-  pipeline-placed m (command no_operand (command _ _)) d env v e = tt
   pipeline-placed m (command (operand _ _) (command _ _)) d env v e = tt
-  pipeline-placed m no_command d env v e = tt
+  pipeline-placed m _ d env v e = tt
 
   root-has : (k : State) (d : Value) (env : Environment) (root : Option (List ℕ)) → Fits k d env → HasOrigin top (root_origin k root) (root_value d env root)
   root-has k d env None h = h.2
@@ -875,14 +875,6 @@ module _ (base : Base) (N : Names) (means : Means base.defs N) (top : Value) whe
   two-ok f (Ok u) (Err cause) a b c e v h = cc
   two-ok f (Err cause) y a b c e v h = cc
 
-  -- a value and those it is compared with
-  called-ok : (f : Func) (x : Result Value Cause) (rs : Result (List Value) Cause) (a b c : Bool) (v : Value)
-      → (go_on (go_on x a (λ u. go_on rs b (λ vs. as_given (Ok (u ∷ vs))))).result c (λ vs. apply_function f (vs ++ []))).result ≡ Ok v
-      → (u : Value) × (ws : List Value) × (x ≡ Ok u) × (rs ≡ Ok ws) × ((apply_function f (u ∷ ws)).result ≡ Ok v)
-  called-ok f (Ok u) (Ok ws) a b c v e = (u, ws, refl, refl, subst (λ (js : List Value). (apply_function f (u ∷ js)).result ≡ Ok v) (append-nil ws) e)
-  called-ok f (Ok u) (Err cause) a b c v e = cc
-  called-ok f (Err cause) rs a b c v e = cc
-
   values-ok : (x : Result Value Cause) (rs : Result (List Value) Cause) (a b : Bool) (ws : List Value)
       → (go_on x a (λ v. go_on rs b (λ vs. as_given (Ok (v ∷ vs))))).result ≡ Ok ws → (w : Value) × (vs : List Value) × (x ≡ Ok w) × (rs ≡ Ok vs) × ((w ∷ vs) ≡ ws)
   values-ok (Ok w) (Ok vs) a b ws e = let same : (w ∷ vs) ≡ ws = cc in (w, vs, refl, refl, same)
@@ -943,25 +935,20 @@ module _ (base : Base) (N : Names) (means : Means base.defs N) (top : Value) whe
         subst (λ (p : Operand). IsLength p v) same (length-ok x.result x.made_text (operand_values (place m d env) (operand q no_operand)).made_text v
         (by_count-ok func.Len (takes func.Len (operand_count (operand q no_operand) + 0))
         (given_then (operand_values (place m d env) (operand q no_operand)) (λ vs. apply_function func.Len (vs ++ []))) v e))
-    call-counts func.Len no_operand o v is e = cc
-    call-counts func.Len (operand _ (operand _ _)) o v is e = cc
     call-counts _ os o v is e = cc
 
     command-counts : (os : Operands) (o : Operand) (v : Value) → counts_in (command_call os) ≡ Some o → (command_value (place m d env) os None).result ≡ Ok v → IsLength o v
     command-counts (operand (function f) os) o v is e = call-counts f os o v is e
-    command-counts (operand _ os) o v is e = cc
-    command-counts no_operand o v is e = cc
+    command-counts _ o v is e = cc
 
     operand-counts : (q o : Operand) (v : Value) → operand_counts q ≡ Some o → (operand_value (place m d env) q).result ≡ Ok v → IsLength o v
+    operand-counts (group _ (_ ∷ _)) o v is e = cc
     operand-counts (group (command os no_command) []) o v is e =
         let c = command_value (place m d env) os None in
         let p = commands_value (place m d env) (command os no_command) None in
         let g = without-ok c.result c.made_text v (inner-ok p.result p.made_text m v e) in
         let l = command-counts os o g.0 is g.1 in
         (l.0, l.1, l.2, l.3, ap without_null l.4 ∙ g.2)
-    operand-counts (group no_command []) o v is e = cc
-    operand-counts (group (command _ (command _ _)) []) o v is e = cc
-    operand-counts (group _ (_ ∷ _)) o v is e = cc
     operand-counts _ o v is e = cc
 
     -- where a fact holds of the value of its operand
@@ -1051,10 +1038,9 @@ module _ (base : Base) (N : Names) (means : Means base.defs N) (top : Value) whe
         by w vs e (Some false) at i more = constant-apart u o os w e at (more i)
 
     nil-alone : (os : Operands) → is_nil_alone os ≡ true → os ≡ operand nil no_operand
-    nil-alone (operand nil no_operand) e = refl
-    nil-alone (operand _ no_operand) e = absurd (false≢true e)
     nil-alone (operand _ (operand _ _)) e = absurd (false≢true e)
-    nil-alone no_operand e = absurd (false≢true e)
+    nil-alone (operand nil no_operand) e = refl
+    nil-alone _ e = absurd (false≢true e)
 
     equal-one : (u w : Value) (vs : List Value) → equal_to_one u (w ∷ vs) ≡ Some false → equality u w ≡ Some false
     equal-one u w vs e = by (equality u w) e
@@ -1135,8 +1121,7 @@ module _ (base : Base) (N : Names) (means : Means base.defs N) (top : Value) whe
     pairs-fit : (c : Bool) (f : Func) (o : Operand) (os : Operands) (k : State) (v : Value) → Fits k d env → call_value f (operand o os) ≡ Ok v → truth v ≡ c
         → Fits (narrow_as base (option_and_then (pair_fact c f o) (one_of os)) k) d env
     pairs-fit c f o (operand p no_operand) k v h e t = pair_fact-fits c f o p k v h e t
-    pairs-fit c f o (operand _ (operand _ _)) k v h e t = h
-    pairs-fit c f o no_operand k v h e t = h
+    pairs-fit c f o _ k v h e t = h
 
     turned-told : (c : Bool) (f : Func) (s : List ℕ) (w v : Value) (test : Test) → compared f (string s) w ≡ Ok v
         → constant_test c f (operand (text_constant s) no_operand) ≡ Some test → compared f w (string s) ≡ Ok v
@@ -1160,8 +1145,6 @@ module _ (base : Base) (N : Names) (means : Means base.defs N) (top : Value) whe
             let told : compared f (string s) g.1 ≡ Ok v = subst (λ (u : Value). compared f u g.1 ≡ Ok v) (sym same) g.4 in
             held-fits p test k h
             (g.1, g.3, constant_test-shown c f (operand (text_constant s) no_operand) g.1 (string s ∷ []) v test refl (turned-told c f s g.1 v test told is) t is)
-    turned_fact-fits c f (text_constant s) (operand p (operand q os)) k v h e t = h
-    turned_fact-fits c f (text_constant s) no_operand k v h e t = h
     turned_fact-fits c f o (operand p no_operand) k v h e t = h
     turned_fact-fits c f o (operand p (operand q os)) k v h e t = h
     turned_fact-fits c f o no_operand k v h e t = h
@@ -1191,9 +1174,7 @@ module _ (base : Base) (N : Names) (means : Means base.defs N) (top : Value) whe
     call_fact-fits : (f : Func) (c : Bool) (os : Operands) (k : State) (v : Value) → Fits k d env → call_value f os ≡ Ok v → truth v ≡ c
         → Fits (narrow_as base (call_fact c f os) k) d env
     call_fact-fits func.Len true (operand o no_operand) k v h e t = full_length-fits o k v h e t
-    call_fact-fits func.Len true (operand _ (operand _ _)) k v h e t = h
-    call_fact-fits func.Len true no_operand k v h e t = h
-    call_fact-fits func.Len false os k v h e t = h
+    call_fact-fits func.Len c os k v h e t = h
     call_fact-fits f c (operand o os) k v h e t = compare_fact-fits c f o os k v h e t
     call_fact-fits f c no_operand k v h e t = h
 
@@ -1224,8 +1205,7 @@ module _ (base : Base) (N : Names) (means : Means base.defs N) (top : Value) whe
         (λ o n l counts counting is. piped-counts c os f p o n l u v x e t counts counting is)
     piped_fact-fits c os (operand (function f) no_operand) k u v h x e t = length_fact-fits c (mirror f) (counts_in (command_call os)) None k h (λ o n l counts counting is. cc)
     piped_fact-fits c os (operand (function f) (operand _ (operand _ _))) k u v h x e t = length_fact-fits c (mirror f) (counts_in (command_call os)) None k h (λ o n l counts counting is. cc)
-    piped_fact-fits c os (operand _ us) k u v h x e t = h
-    piped_fact-fits c os no_operand k u v h x e t = h
+    piped_fact-fits c os _ k u v h x e t = h
 
     -- an operand of an `and` that is not empty is not empty, and one of an `or` that is empty is
     each-step : (c : Bool) (r : Result Value Cause) (b : Bool) (more : Value → Given Value) (v : Value)
@@ -1284,8 +1264,7 @@ module _ (base : Base) (N : Names) (means : Means base.defs N) (top : Value) whe
           call_fact-fits f c os k v h (by_count-ok f (takes f (operand_count os + 0)) (given_then (operand_values (place m d env) os) (λ vs. apply_function f (vs ++ []))) v e) t
       command-narrows (operand nil no_operand) c k v h e t = cc
       command-narrows (operand o no_operand) c k v h e t = operand-narrows o c k v h e t
-      command-narrows (operand _ (operand _ _)) c k v h e t = h
-      command-narrows no_operand c k v h e t = h
+      command-narrows _ c k v h e t = h
 
       pipeline-narrows : (p : Pipeline) (c : Bool) (k : State) (v : Value) → Fits k d env → (commands_value (place m d env) p None).result ≡ Ok v → truth v ≡ c
           → Fits (narrow base c p k) d env
@@ -1296,8 +1275,7 @@ module _ (base : Base) (N : Names) (means : Means base.defs N) (top : Value) whe
           let r = command_value (place m d env) os None in
           let g = two_commands-ok r.result r.made_text (piped_value us) v e in
           piped_fact-fits c os us k g.0 g.1 h g.2 g.3 (g.4 ∙ t)
-      pipeline-narrows (command _ (command _ (command _ _))) c k v h e t = h
-      pipeline-narrows no_command c k v h e t = h
+      pipeline-narrows _ c k v h e t = h
 
   -- ---- `slice`
 
