@@ -781,8 +781,10 @@ module _ (base : Base) (N : Names) (means : Means base.defs N) (top : Value) whe
       by None i = tt
       by (Some v) i = path-has top v.2 (lookup name env) i.1
 
-  place-has : (k : State) (d : Value) (env : Environment) (p : check.Place) (v : Value) → Fits k d env → IsAt p.path (root_value d env p.root) v → HasOrigin top (place_origin k p) v
-  place-has k d env p v h i = by (root_origin k p.root) (root-has k d env p.root h)
+  place-has : (k : State) (d : Value) (env : Environment) (o : Option check.Place) (v : Value) → Fits k d env → IsPlaced d env o v
+      → HasOrigin top (option_and_then (place_origin k) o) v
+  place-has k d env None v h i = tt
+  place-has k d env (Some p) v h i = by (root_origin k p.root) (root-has k d env p.root h)
     where
       by : (o : Origin) → HasOrigin top o (root_value d env p.root) → HasOrigin top (option_map (λ ps. ps ++ p.path) o) v
       by None g = tt
@@ -790,19 +792,11 @@ module _ (base : Base) (N : Names) (means : Means base.defs N) (top : Value) whe
 
   operand-has : (m : MissingKey) (o : Operand) (k : State) (d : Value) (env : Environment) (v : Value) → Fits k d env → (operand_value (place m d env) o).result ≡ Ok v
       → HasOrigin top (operand_origin k o) v
-  operand-has m o k d env v h e = by (place_of o) (operand-placed m o d env v e)
-    where
-      by : (o : Option check.Place) → IsPlaced d env o v → HasOrigin top (option_and_then (place_origin k) o) v
-      by None g = tt
-      by (Some q) g = place-has k d env q v h g
+  operand-has m o k d env v h e = place-has k d env (place_of o) v h (operand-placed m o d env v e)
 
   pub pipeline-has : (m : MissingKey) (p : Pipeline) (k : State) (d : Value) (env : Environment) (v : Value) → Fits k d env → (commands_value (place m d env) p None).result ≡ Ok v
       → HasOrigin top (pipeline_origin k p) v
-  pipeline-has m p k d env v h e = by (pipeline_place p) (pipeline-placed m p d env v e)
-    where
-      by : (o : Option check.Place) → IsPlaced d env o v → HasOrigin top (option_and_then (place_origin k) o) v
-      by None g = tt
-      by (Some q) g = place-has k d env q v h g
+  pipeline-has m p k d env v h e = place-has k d env (pipeline_place p) v h (pipeline-placed m p d env v e)
 
   root-fits : (test : Test) (p : check.Place) (k : State) (d : Value) (env : Environment) → Fits k d env → Ends test p.path (root_value d env p.root)
       → Fits (narrow_root base test p k) d env
@@ -818,7 +812,7 @@ module _ (base : Base) (N : Names) (means : Means base.defs N) (top : Value) whe
   placed-fits : (test : Test) (o : Option check.Place) (k : State) (d : Value) (env : Environment) (v : Value) → Fits k d env → IsPlaced d env o v → Shows test v
       → Fits (narrow_to base test o k) d env
   placed-fits test None k d env v h i t = h
-  placed-fits test (Some p) k d env v h i t = by (place_origin k p) (place-has k d env p v h i)
+  placed-fits test (Some p) k d env v h i t = by (place_origin k p) (place-has k d env (Some p) v h i)
     where
       by : (o : Origin) → HasOrigin top o v → Fits (option_map_or (λ ns. narrow_from base test ns k) o (narrow_root base test p k)) d env
       by None g = root-fits test p k d env h (at-ends test p.path (root_value d env p.root) v i t)
