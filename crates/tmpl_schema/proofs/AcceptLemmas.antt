@@ -11,8 +11,8 @@ use Rattle.tmpl_shape.specs.Shape.{Shape, Schema, HasShape, stands_for}
 use Rattle.tmpl_schema.specs.Safe.{NeverFails}
 use Rattle.tmpl_schema.specs.declared.table.Entry as held
 use Rattle.tmpl_shape.specs.computed.Shapes.{Base, null_gone}
-use Rattle.tmpl_schema.specs.computed.Check.{Callee, Table, handed, is_safe}
-use Rattle.tmpl_schema.specs.computed.Safe.{EachCallee, IsAccepted, IsCallee, IsChecked, NeverFailsIn, mode_for}
+use Rattle.tmpl_schema.specs.computed.Check.{Callee, Table, is_safe}
+use Rattle.tmpl_schema.specs.computed.Safe.{EachCallee, IsCallee, IsChecked, NeverFailsIn, mode_for}
 use Rattle.tmpl_schema.specs.computed.View.{callee_of, entries_of, table_of}
 use Rattle.tmpl_schema.proofs.ModeLemmas.{in-asked, safe-keeps, checked-keeps}
 use Rattle.tmpl_schema.proofs.SafeLemmas.{runs-safely}
@@ -51,10 +51,6 @@ all-accepted base asked stops set es name s t named safe each = (
       (in-asked (λ i. is_safe base i table s t.nodes ≡ true) asked m is (λ i. safe-keeps base i table s t.nodes) safe)
       fits,
 )
-
-pub handed-callee : (base : Base) (m : MissingKey) (stops : List (List ℕ)) (set : List Template) (table : Table) (name : List ℕ) (s : Shape) (t : Tree)
-    → Some t ≡ tree_named name set → IsAccepted base m stops set table s t → IsCallee base m stops set table name (handed s)
-handed-callee base m stops set table name s t named safe = (t, sym named, safe)
 
 -- a value of the shape is one of the shape without null as a run takes it
 start-has : (base : Base) (s : Shape) (input : Option Value) → HasShape (stands_for base.defs) s (unwrap_or input nothing)

@@ -1,6 +1,6 @@
 -- For the law `runs_safely`: calls have the shapes that are computed.
 use Rattle.std.proofs.Common.{◌≡◌, ◌∙◌, ◌||◌, ◌&&◌, ℕ, pos, Bool, true, false, not, List, [], ◌∷◌, map, Option, Some, None, Result, inl, inr, refl, sym, if◌then◌else◌, option_map, option_and_then, ok_or}
-use Rattle.std.proofs.lemmas.Bool.{false≢true, and_parts}
+use Rattle.std.proofs.lemmas.Bool.{false≢true, and_parts, not-true}
 use Rattle.std.specs.Result.{result_map_both}
 use Rattle.tmpl_values.specs.Value.{Value, nothing, null, boolean, number, string, sequence, mapping}
 use Rattle.tmpl_values.specs.Compare.{equality, order}
@@ -57,10 +57,6 @@ AreAmong [] [] = Unit {0}
 AreAmong (ks ∷ kss) (v ∷ vs) = IsAmong ks v × AreAmong kss vs
 AreAmong kss vs = ⊥
 
-not_true : (b : Bool) → not b ≡ true → b ≡ false
-not_true false e = refl
-not_true true e = absurd (false≢true e)
-
 apart : (b : Bool) → b ≡ true → b ≡ false → ⊥
 apart b e f = false≢true (sym f ∙ e)
 
@@ -75,56 +71,39 @@ opposite (Some c) h = tt
 
 -- ---- equality
 
+-- what is compared with many is nothing or null
+many : (u w : Value) (ks : Kinds) → Compared (equality u nothing) → Compared (equality u null) → IsAmong ks w
+    → (ks.truth ≡ false) × ((ks.number || (ks.text || ks.many)) ≡ false) → Compared (equality u w)
+many u nothing ks c d h p = c
+many u null ks c d h p = d
+many u (boolean b) ks c d h p = absurd (apart ks.truth h p.0)
+many u (number b) ks c d h p = absurd (apart ks.number h (neither ks.number (ks.text || ks.many) p.1).0)
+many u (string b) ks c d h p = absurd (apart ks.text h (neither ks.text ks.many (neither ks.number (ks.text || ks.many) p.1).1).0)
+many u (sequence b) ks c d h p = absurd (apart ks.many h (neither ks.text ks.many (neither ks.number (ks.text || ks.many) p.1).1).1)
+many u (mapping b) ks c d h p = absurd (apart ks.many h (neither ks.text ks.many (neither ks.number (ks.text || ks.many) p.1).1).1)
+
 -- two values of kinds that do not clash
 unclashed : (v w : Value) (ks : Kinds) → clashes (kind_of v) ks ≡ false → IsAmong ks w → Compared (equality v w)
-unclashed nothing w ks e h = tt
-unclashed null w ks e h = tt
-unclashed (boolean a) nothing ks e h = tt
-unclashed (boolean a) null ks e h = tt
-unclashed (boolean a) (boolean b) ks e h = tt
 unclashed (boolean a) (number b) ks e h = absurd (apart ks.number h (neither ks.number (ks.text || ks.many) e).0)
 unclashed (boolean a) (string b) ks e h = absurd (apart ks.text h (neither ks.text ks.many (neither ks.number (ks.text || ks.many) e).1).0)
 unclashed (boolean a) (sequence b) ks e h = absurd (apart ks.many h (neither ks.text ks.many (neither ks.number (ks.text || ks.many) e).1).1)
 unclashed (boolean a) (mapping b) ks e h = absurd (apart ks.many h (neither ks.text ks.many (neither ks.number (ks.text || ks.many) e).1).1)
-unclashed (number a) nothing ks e h = tt
-unclashed (number a) null ks e h = tt
-unclashed (number a) (number b) ks e h = tt
 unclashed (number a) (boolean b) ks e h = absurd (apart ks.truth h (neither ks.truth (ks.text || ks.many) e).0)
 unclashed (number a) (string b) ks e h = absurd (apart ks.text h (neither ks.text ks.many (neither ks.truth (ks.text || ks.many) e).1).0)
 unclashed (number a) (sequence b) ks e h = absurd (apart ks.many h (neither ks.text ks.many (neither ks.truth (ks.text || ks.many) e).1).1)
 unclashed (number a) (mapping b) ks e h = absurd (apart ks.many h (neither ks.text ks.many (neither ks.truth (ks.text || ks.many) e).1).1)
-unclashed (string a) nothing ks e h = tt
-unclashed (string a) null ks e h = tt
-unclashed (string a) (string b) ks e h = tt
 unclashed (string a) (boolean b) ks e h = absurd (apart ks.truth h (neither ks.truth (ks.number || ks.many) e).0)
 unclashed (string a) (number b) ks e h = absurd (apart ks.number h (neither ks.number ks.many (neither ks.truth (ks.number || ks.many) e).1).0)
 unclashed (string a) (sequence b) ks e h = absurd (apart ks.many h (neither ks.number ks.many (neither ks.truth (ks.number || ks.many) e).1).1)
 unclashed (string a) (mapping b) ks e h = absurd (apart ks.many h (neither ks.number ks.many (neither ks.truth (ks.number || ks.many) e).1).1)
-unclashed (sequence a) w ks e h = many w h (neither ks.truth (ks.number || (ks.text || ks.many)) e)
-  where
-    many : (w : Value) → IsAmong ks w → (ks.truth ≡ false) × ((ks.number || (ks.text || ks.many)) ≡ false) → Compared (equality (sequence a) w)
-    many nothing h p = tt
-    many null h p = tt
-    many (boolean b) h p = absurd (apart ks.truth h p.0)
-    many (number b) h p = absurd (apart ks.number h (neither ks.number (ks.text || ks.many) p.1).0)
-    many (string b) h p = absurd (apart ks.text h (neither ks.text ks.many (neither ks.number (ks.text || ks.many) p.1).1).0)
-    many (sequence b) h p = absurd (apart ks.many h (neither ks.text ks.many (neither ks.number (ks.text || ks.many) p.1).1).1)
-    many (mapping b) h p = absurd (apart ks.many h (neither ks.text ks.many (neither ks.number (ks.text || ks.many) p.1).1).1)
-unclashed (mapping a) w ks e h = many w h (neither ks.truth (ks.number || (ks.text || ks.many)) e)
-  where
-    many : (w : Value) → IsAmong ks w → (ks.truth ≡ false) × ((ks.number || (ks.text || ks.many)) ≡ false) → Compared (equality (mapping a) w)
-    many nothing h p = tt
-    many null h p = tt
-    many (boolean b) h p = absurd (apart ks.truth h p.0)
-    many (number b) h p = absurd (apart ks.number h (neither ks.number (ks.text || ks.many) p.1).0)
-    many (string b) h p = absurd (apart ks.text h (neither ks.text ks.many (neither ks.number (ks.text || ks.many) p.1).1).0)
-    many (sequence b) h p = absurd (apart ks.many h (neither ks.text ks.many (neither ks.number (ks.text || ks.many) p.1).1).1)
-    many (mapping b) h p = absurd (apart ks.many h (neither ks.text ks.many (neither ks.number (ks.text || ks.many) p.1).1).1)
+unclashed (sequence a) w ks e h = many (sequence a) w ks tt tt h (neither ks.truth (ks.number || (ks.text || ks.many)) e)
+unclashed (mapping a) w ks e h = many (mapping a) w ks tt tt h (neither ks.truth (ks.number || (ks.text || ks.many)) e)
+unclashed _ _ ks e h = tt
 
 comparable-so : (a b : Kinds) (v w : Value) → IsAmong a v → IsAmong b w → comparable a b ≡ true → Compared (equality v w)
 comparable-so a b v w h g e =
     let p : (not (has a (kind_of v)) || not (clashes (kind_of v) b)) ≡ true = at-kind (λ k. not (has a k) || not (clashes k b)) e (kind_of v) in
-    let q : not (clashes (kind_of v) b) ≡ true = rw h at p in unclashed v w b (not_true (clashes (kind_of v) b) q) g
+    let q : not (clashes (kind_of v) b) ≡ true = rw h at p in unclashed v w b (not-true (clashes (kind_of v) b) q) g
 
 equal-so : (a : Kinds) (v : Value) → IsAmong a v → (bs : List Kinds) (ws : List Value) → AreAmong bs ws → comparable_to_all a bs ≡ true → Compared (equal_to_one v ws)
 equal-so a v h [] [] g e = tt
@@ -142,7 +121,7 @@ equal-so a v h _ _ g e = absurd g
 
 none-of-four : (a b c d : Bool) → not (a || (b || (c || d))) ≡ true → (a ≡ false) × (b ≡ false) × (c ≡ false) × (d ≡ false)
 none-of-four a b c d e =
-    let p = neither a (b || (c || d)) (not_true (a || (b || (c || d))) e) in let q = neither b (c || d) p.1 in let r = neither c d q.1 in (p.0, q.0, r.0, r.1)
+    let p = neither a (b || (c || d)) (not-true (a || (b || (c || d))) e) in let q = neither b (c || d) p.1 in let r = neither c d q.1 in (p.0, q.0, r.0, r.1)
 
 abbrev IsNumber : Value → Type 0
 IsNumber (number n) = Unit {0}
@@ -209,7 +188,7 @@ IsSized (Some n) = Unit {0}
 
 sized : (ks : Kinds) (v : Value) → IsAmong ks v → is_sized ks ≡ true → IsSized (size_of v)
 sized ks v h e =
-    let p = neither ks.blank (ks.truth || ks.number) (not_true (ks.blank || (ks.truth || ks.number)) e) in
+    let p = neither ks.blank (ks.truth || ks.number) (not-true (ks.blank || (ks.truth || ks.number)) e) in
     let q = neither ks.truth ks.number p.1 in by v h (p.0, q.0, q.1)
   where
     by : (w : Value) → IsAmong ks w → (ks.blank ≡ false) × (ks.truth ≡ false) × (ks.number ≡ false) → IsSized (size_of w)
@@ -217,9 +196,7 @@ sized ks v h e =
     by null h p = absurd (apart ks.blank h p.0)
     by (boolean b) h p = absurd (apart ks.truth h p.1)
     by (number n) h p = absurd (apart ks.number h p.2)
-    by (string t) h p = tt
-    by (sequence vs) h p = tt
-    by (mapping es) h p = tt
+    by _ h p = tt
 
 module _ (base : Base) (N : Names) (means : Means base.defs N) where
   abbrev pub HaveShapes : List Shape → List Value → Type 0
@@ -233,10 +210,7 @@ module _ (base : Base) (N : Names) (means : Means base.defs N) where
     where
       by : (k : Kind) → has_kind base k s ≡ true → has (kinds_of base s) k ≡ true
       by Blank e = e
-      by Truth e = e
-      by Number e = e
-      by Text e = e
-      by Many e = e
+      by _ e = e
 
   pub all-among : (ss : List Shape) (vs : List Value) → HaveShapes ss vs → AreAmong (map (kinds_of base) ss) vs
   all-among [] [] h = tt
@@ -294,10 +268,6 @@ module _ (base : Base) (N : Names) (means : Means base.defs N) where
   kinds-give : (f : Func) (ks : List Kinds) (vs : List Value) → AreAmong ks vs → (Gives base N means) (kinds_shape f ks) (apply_function f vs).result
   kinds-give func.Not ks vs h = one-gives func.Not _ _ (λ a v k. tt) ks vs h
   kinds-give func.Len ks vs h = one-gives func.Len _ _ (λ a v k. size-gives a v k (is_sized a) refl) ks vs h
-  kinds-give func.Print ks vs h = tt
-  kinds-give func.Println ks vs h = tt
-  kinds-give func.Html ks vs h = tt
-  kinds-give func.Urlquery ks vs h = tt
   kinds-give func.Eq ks vs h = eq-gives ks vs h
   kinds-give func.Ne ks vs h =
       two-give func.Ne _ _ (λ a b v w x y. truths-if-gives func.Ne (comparable a b) _ (λ e. opposite (equality v w) (comparable-so a b v w x y e))) ks vs h

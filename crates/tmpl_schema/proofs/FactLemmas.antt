@@ -8,9 +8,10 @@ use Rattle.tmpl_funcs.specs.declared.func.Func.{Func}
 use Rattle.tmpl_funcs.specs.declared.func.Func.TheVariants as func
 use Rattle.tmpl_schema.specs.computed.Check.{bounds_of, call_fact, compare_fact, one_of, pipeline_call, pipeline_place}
 
-pub not-one : (o : Operand) (os : List held.Operand) → 1 ≤ length os → one_of (operand o (operands_in os)) ≡ None
-not-one o [] h = absurd (omega arith)
-not-one o (p ∷ os) h = refl
+pub not-one : (os : List held.Operand) → 2 ≤ length os → one_of (operands_in os) ≡ None
+not-one [] h = absurd (omega arith)
+not-one (o ∷ []) h = absurd (omega arith)
+not-one (o ∷ p ∷ os) h = refl
 
 pub not-one-call : (cs : List held_command.Command) → 2 ≤ length cs → pipeline_call (commands_in cs) ≡ None
 not-one-call [] h = absurd (omega arith)

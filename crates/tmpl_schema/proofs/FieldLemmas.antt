@@ -1,5 +1,5 @@
 -- For the law `runs_safely`: fields and elements of values have the shapes that are computed, and a narrowed shape is the value's.
-use Rattle.std.proofs.Common.{arith, ◌≡◌, ◌∙◌, ◌+◌, ◌≤◌, ◌||◌, length, ℕ, zero, suc, pos, Bool, true, false, List, [], ◌∷◌, map, Option, Some, None, IsSome, Result, Ok, Err, inl, inr, ap, refl, sym, subst, if◌then◌else◌}
+use Rattle.std.proofs.Common.{arith, ◌≡◌, ◌∙◌, ◌+◌, ◌≤◌, ◌||◌, ◌⊎◌, length, ℕ, zero, suc, pos, Bool, true, false, List, [], ◌∷◌, map, Option, Some, None, IsSome, Result, Ok, Err, inl, inr, ap, refl, sym, subst, if◌then◌else◌}
 use Rattle.std.proofs.Math.Nat.{max-le}
 use Rattle.std.proofs.lemmas.Bool.{false≢true}
 use Rattle.std.proofs.lemmas.Slice.Eq.{bytes_eq-Decides}
@@ -23,7 +23,7 @@ use Rattle.tmpl_shape.specs.Shape.{EachItem, EachEntry, AreDistinct, HasRequired
 use Rattle.tmpl_shape.specs.declared.constant.Constant.{Constant}
 use Rattle.tmpl_shape.specs.declared.constant.Constant.TheVariants as constant
 use Rattle.tmpl_shape.specs.computed.Means.{Means}
-use Rattle.tmpl_shape.specs.computed.Shapes.{Base, Test, has_least, is_among, is_apart, shows_there, least_of, lets_value, shape_at, is_never, is_required, with_field, with_refined, both, blurred, refine_record, refine_constant, refine_by, refine, fill, absent_shape, of_field, entry_shape}
+use Rattle.tmpl_shape.specs.computed.Shapes.{Base, Test, has_least, is_among, is_apart, shows_there, least_of, lets_value, shape_at, is_never, is_required, join, with_field, with_refined, both, blurred, refine_record, refine_constant, refine_by, refine, fill, absent_shape, of_field, entry_shape}
 use Rattle.tmpl_shape.proofs.ConstantLemmas.{kind-has}
 use Rattle.tmpl_shape.specs.computed.Shapes.{kind_shape, field_shape_by, field_shape, chain_shape, any_field, Visit, both_visits, visit_by, visit_of}
 use Rattle.tmpl_schema.specs.computed.Check.{absent_field}
@@ -47,12 +47,10 @@ Ends test ns v = (shows_there test ≡ true → (x : Value) × (chain mode.Error
 
 pub only-there : (v : Value) → is_nothing v ≡ false → Shows (has_least 0) v
 only-there (sequence vs) t = (λ e. t, omega arith)
-only-there (string s) t = (λ e. t, refl)
 only-there nothing t = (λ e. t, tt)
 only-there null t = (λ e. t, tt)
-only-there (boolean b) t = (λ e. t, refl)
-only-there (number n) t = (λ e. t, refl)
 only-there (mapping es) t = (λ e. t, tt)
+only-there _ t = (λ e. t, refl)
 
 -- what is not empty is neither nothing nor null, and has an item if it is a list
 pub full-thing : (v : Value) → truth v ≡ true → Shows (has_least 1) v
@@ -60,10 +58,8 @@ full-thing nothing t = absurd (false≢true t)
 full-thing null t = absurd (false≢true t)
 full-thing (sequence no_item) t = absurd (false≢true t)
 full-thing (sequence (item v vs)) t = (λ e. refl, omega arith)
-full-thing (boolean b) t = (λ e. refl, t)
-full-thing (number n) t = (λ e. refl, t)
-full-thing (string s) t = (λ e. refl, t)
 full-thing (mapping es) t = (λ e. refl, tt)
+full-thing _ t = (λ e. refl, t)
 
 module _ (base : Base) (N : Names) (means : Means base.defs N) where
   -- where a shape is computed there is a value, and it has the shape
@@ -72,17 +68,20 @@ module _ (base : Base) (N : Names) (means : Means base.defs N) where
   Gives (Some s) (Ok v) = HasShape N s v
   Gives (Some s) (Err cause) = ⊥
 
-  pub both-left : (o p : Option Shape) (r : Result Value Cause) → Gives o r → Gives (both base o p) r
-  both-left None p r h = tt
-  both-left (Some a) None r h = tt
-  both-left (Some s) (Some t) (Ok v) h = join-left base N means s t v h
-  both-left (Some s) (Some t) (Err cause) h = h
+  pub join-has : (s t : Shape) (v : Value) → HasShape N s v ⊎ HasShape N t v → HasShape N (join base s t) v
+  join-has s t v h = elim h [
+    | inl x ↦ join-left base N means s t v x
+    | inr x ↦ join-right base N means s t v x
+  ]
 
-  pub both-right : (o p : Option Shape) (r : Result Value Cause) → Gives p r → Gives (both base o p) r
-  both-right None p r h = tt
-  both-right (Some a) None r h = tt
-  both-right (Some s) (Some t) (Ok v) h = join-right base N means s t v h
-  both-right (Some s) (Some t) (Err cause) h = h
+  pub both-give : (o p : Option Shape) (r : Result Value Cause) → Gives o r ⊎ Gives p r → Gives (both base o p) r
+  both-give None p r h = tt
+  both-give (Some a) None r h = tt
+  both-give (Some s) (Some t) (Ok v) h = join-has s t v h
+  both-give (Some s) (Some t) (Err cause) h = elim h [
+    | inl x ↦ x
+    | inr x ↦ x
+  ]
 
   pub then-gives : (f : Shape → Option Shape) (g : Value → Result Value Cause) → ((s : Shape) (v : Value) → HasShape N s v → Gives (f s) (g v))
       → (o : Option Shape) (r : Result Value Cause) → Gives o r → Gives (option_and_then f o) (and_then r g)
@@ -107,26 +106,26 @@ module _ (base : Base) (N : Names) (means : Means base.defs N) where
 
   missing-gives : (m : MissingKey) (n : List ℕ) (es : Entries) → entry_at n es ≡ None → (fs : Fields) → HasRequired fs es → Gives (entry_shape base (absent_field m) n fs) (field_value m n missing)
   missing-gives m n es e no_field h = absent-gives m n
-  missing-gives m n es e (others s) h = both-right (Some (blurred base s)) (absent_shape (absent_field m)) (field_value m n missing) (absent-gives m n)
+  missing-gives m n es e (others s) h = both-give (Some (blurred base s)) (absent_shape (absent_field m)) (field_value m n missing) (inr (absent-gives m n))
   missing-gives m n es e (field name required s fs) h = by (bytes_eq n name) refl required h.0 (missing-gives m n es e fs h.1)
     where
       by : (c : Bool) → bytes_eq n name ≡ c → (r : Bool) → (r ≡ true → IsSome (entry_at name es)) → Gives (entry_shape base (absent_field m) n fs) (field_value m n missing)
           → Gives (if c then of_field base (absent_field m) r s else entry_shape base (absent_field m) n fs) (field_value m n missing)
       by true is true there more =
           absurd (none-some (subst (λ (o : Option Value). IsSome o) (ap (λ (k : List ℕ). entry_at k es) (sym (same_name n name is)) ∙ e) (there refl)))
-      by true is false there more = both-right (Some (blurred base s)) (absent_shape (absent_field m)) (field_value m n missing) (absent-gives m n)
+      by true is false there more = both-give (Some (blurred base s)) (absent_shape (absent_field m)) (field_value m n missing) (inr (absent-gives m n))
       by false is r there more = more
 
   found-gives : (m : MissingKey) (n : List ℕ) (w : Value) (fs : Fields) → IsField N fs n w → Gives (entry_shape base (absent_field m) n fs) (field_value m n (found w))
   found-gives m n w no_field h = absurd h
-  found-gives m n w (others s) h = both-left (Some (blurred base s)) (absent_shape (absent_field m)) (Ok w) (blurred-has base N means s w h)
+  found-gives m n w (others s) h = both-give (Some (blurred base s)) (absent_shape (absent_field m)) (Ok w) (inl (blurred-has base N means s w h))
   found-gives m n w (field name required s fs) h = by (bytes_eq n name) refl h required (found-gives m n w fs)
     where
       by : (c : Bool) → bytes_eq n name ≡ c → IsField N (field name required s fs) n w → (r : Bool)
           → (IsField N fs n w → Gives (entry_shape base (absent_field m) n fs) (field_value m n (found w)))
           → Gives (if c then of_field base (absent_field m) r s else entry_shape base (absent_field m) n fs) (field_value m n (found w))
       by true is (inl x) true more = blurred-has base N means s w x.1
-      by true is (inl x) false more = both-left (Some (blurred base s)) (absent_shape (absent_field m)) (Ok w) (blurred-has base N means s w x.1)
+      by true is (inl x) false more = both-give (Some (blurred base s)) (absent_shape (absent_field m)) (Ok w) (inl (blurred-has base N means s w x.1))
       by true is (inr x) r more = absurd (false≢true (sym x.0 ∙ is))
       by false is (inl x) r more = absurd (false≢true (sym is ∙ x.0))
       by false is (inr x) r more = more x.1
@@ -156,10 +155,8 @@ module _ (base : Base) (N : Names) (means : Means base.defs N) where
   field_by-gives (suc i) m n (record_of fs) (mapping es) h = entry-gives m n fs es h.1 h.2
   field_by-gives (suc i) m n (record_of fs) _ h = absurd h
   field_by-gives (suc i) m n (either s t) v h =
-      elim h [
-        | inl x ↦ both-left (field_shape_by base i (absent_field m) n s) (field_shape_by base i (absent_field m) n t) (field_value m n (field_at n v)) (field_by-gives i m n s v x)
-        | inr x ↦ both-right (field_shape_by base i (absent_field m) n s) (field_shape_by base i (absent_field m) n t) (field_value m n (field_at n v)) (field_by-gives i m n t v x)
-      ]
+      both-give (field_shape_by base i (absent_field m) n s) (field_shape_by base i (absent_field m) n t) (field_value m n (field_at n v))
+      (elim h [ inl x ↦ inl (field_by-gives i m n s v x) | inr x ↦ inr (field_by-gives i m n t v x) ])
   field_by-gives (suc i) m n (named y) v h = by (base.defs y) refl (λ s. field_by-gives i m n s v)
     where
       by : (o : Option Shape) → base.defs y ≡ o → ((s : Shape) → HasShape N s v → Gives (field_shape_by base i (absent_field m) n s) (field_value m n (field_at n v)))
@@ -368,10 +365,7 @@ module _ (base : Base) (N : Names) (means : Means base.defs N) where
   refine_by-has test (suc i) ns (list_of n s) (sequence vs) h t = (max-le h.0 (least-has test ns vs t), h.1)
   refine_by-has test (suc i) ns (list_of n s) _ h t = absurd h
   refine_by-has test (suc i) ns (either s u) v h t =
-      elim h [
-        | inl y ↦ join-left base N means (refine_by base test i ns s) (refine_by base test i ns u) v (refine_by-has test i ns s v y t)
-        | inr y ↦ join-right base N means (refine_by base test i ns s) (refine_by base test i ns u) v (refine_by-has test i ns u v y t)
-      ]
+      join-has (refine_by base test i ns s) (refine_by base test i ns u) v (elim h [ inl y ↦ inl (refine_by-has test i ns s v y t) | inr y ↦ inr (refine_by-has test i ns u v y t) ])
   refine_by-has test (suc i) ns (named y) v h t = by (base.defs y) refl (λ s k. refine_by-has test i ns s v k t)
     where
       by : (o : Option Shape) → base.defs y ≡ o → ((s : Shape) → HasShape N s v → HasShape N (refine_by base test i ns s) v)
@@ -410,19 +404,17 @@ module _ (base : Base) (N : Names) (means : Means base.defs N) where
   each-on P Q f [] h = tt
   each-on P Q f (e ∷ es) h = (f e h.0, each-on P Q f es h.1)
 
-  visits-left : (o p : Option Visit) (es : Option (List Element)) → Visits o es → Visits (both_visits base o p) es
-  visits-left None p es h = tt
-  visits-left (Some a) None es h = tt
-  visits-left (Some u) (Some w) None h = h
-  visits-left (Some u) (Some w) (Some es) h =
-      each-on (IsVisit u) _ (λ e x. ((join-left base N means) u.key w.key e.0 x.0, (join-left base N means) u.element w.element e.1 x.1)) es h
-
-  visits-right : (o p : Option Visit) (es : Option (List Element)) → Visits p es → Visits (both_visits base o p) es
-  visits-right None p es h = tt
-  visits-right (Some a) None es h = tt
-  visits-right (Some u) (Some w) None h = h
-  visits-right (Some u) (Some w) (Some es) h =
-      each-on (IsVisit w) _ (λ e x. ((join-right base N means) u.key w.key e.0 x.0, (join-right base N means) u.element w.element e.1 x.1)) es h
+  both-visit : (o p : Option Visit) (es : Option (List Element)) → Visits o es ⊎ Visits p es → Visits (both_visits base o p) es
+  both-visit None p es h = tt
+  both-visit (Some a) None es h = tt
+  both-visit (Some u) (Some w) None h = elim h [
+    | inl x ↦ x
+    | inr x ↦ x
+  ]
+  both-visit (Some u) (Some w) (Some es) h = elim h [
+    | inl y ↦ each-on (IsVisit u) _ (λ e x. (join-has u.key w.key e.0 (inl x.0), join-has u.element w.element e.1 (inl x.1))) es y
+    | inr y ↦ each-on (IsVisit w) _ (λ e x. (join-has u.key w.key e.0 (inr x.0), join-has u.element w.element e.1 (inr x.1))) es y
+  ]
 
   count-visits : (is : List ℕ) → Each (IsVisit (record { key = numbers; element = numbers })) (map (λ i. (number (pos i), number (pos i))) is)
   count-visits [] = tt
@@ -437,10 +429,7 @@ module _ (base : Base) (N : Names) (means : Means base.defs N) where
   any-has no_field k v h = h
   any-has (others s) k v h = h
   any-has (field n required s fs) k v h =
-      elim h [
-        | inl x ↦ (join-left base N means) (blurred base s) (any_field base fs) v (blurred-has base N means s v x.1)
-        | inr x ↦ (join-right base N means) (blurred base s) (any_field base fs) v (any-has fs k v x.1)
-      ]
+      join-has (blurred base s) (any_field base fs) v (elim h [ inl x ↦ inl (blurred-has base N means s v x.1) | inr x ↦ inr (any-has fs k v x.1) ])
 
   record-visits : (fs : Fields) (es : Entries) → EachEntry (IsField N fs) es → Each (IsVisit (record { key = texts; element = any_field base fs })) (elements_of_entries es)
   record-visits fs no_entry h = tt
@@ -469,10 +458,7 @@ module _ (base : Base) (N : Names) (means : Means base.defs N) where
   visit_by-gives (suc i) c (record_of fs) (mapping es) h = rw (no-number c (mapping es) refl) (record-visits fs es h.1)
   visit_by-gives (suc i) c (record_of fs) _ h = absurd h
   visit_by-gives (suc i) c (either s t) v h =
-      elim h [
-        | inl x ↦ visits-left (visit_by base i c s) (visit_by base i c t) (elements_visited c v) (visit_by-gives i c s v x)
-        | inr x ↦ visits-right (visit_by base i c s) (visit_by base i c t) (elements_visited c v) (visit_by-gives i c t v x)
-      ]
+      both-visit (visit_by base i c s) (visit_by base i c t) (elements_visited c v) (elim h [ inl x ↦ inl (visit_by-gives i c s v x) | inr x ↦ inr (visit_by-gives i c t v x) ])
   visit_by-gives (suc i) c (named y) v h = by (base.defs y) refl (λ s. visit_by-gives i c s v)
     where
       by : (o : Option Shape) → base.defs y ≡ o → ((s : Shape) → HasShape N s v → Visits (visit_by base i c s) (elements_visited c v))

@@ -70,48 +70,24 @@ by-any f (mapping es) h = taken-if (is_bare f) (Some (inner_text (sequence no_it
 
 by-number : (base : ℕ) → IsByKind (print_number base)
 by-number base f (number n) h = refl
-by-number base f nothing h = h
-by-number base f null h = h
-by-number base f (boolean b) h = h
-by-number base f (string s) h = h
-by-number base f (sequence vs) h = h
-by-number base f (mapping es) h = h
+by-number base f _ h = h
 
 by-hex : (upper : Bool) → IsByKind (print_hex upper)
 by-hex upper f (string s) h = taken-form f (flat_map (hex_pair upper) []) (flat_map (hex_pair upper) s) h
 by-hex upper f (number n) h = refl
-by-hex upper f nothing h = h
-by-hex upper f null h = h
-by-hex upper f (boolean b) h = h
-by-hex upper f (sequence vs) h = h
-by-hex upper f (mapping es) h = h
+by-hex upper f _ h = h
 
 by-bytes : (g : Form → List ℕ → List ℕ) → IsByKind (λ f v. text_form f (option_map (g f) (bytes_of v)))
 by-bytes g f (string s) h = taken-form f _ _ h
-by-bytes g f (number n) h = h
-by-bytes g f nothing h = h
-by-bytes g f null h = h
-by-bytes g f (boolean b) h = h
-by-bytes g f (sequence vs) h = h
-by-bytes g f (mapping es) h = h
+by-bytes g f _ h = h
 
 by-code : IsByKind (λ f v. text_form f (option_map char_text (number_of v)))
 by-code f (number n) h = taken-form f _ _ h
-by-code f (string s) h = h
-by-code f nothing h = h
-by-code f null h = h
-by-code f (boolean b) h = h
-by-code f (sequence vs) h = h
-by-code f (mapping es) h = h
+by-code f _ h = h
 
 by-truth : IsByKind print_truth
 by-truth f (boolean b) h = taken-form f (truth_text false) (truth_text b) h
-by-truth f (number n) h = h
-by-truth f (string s) h = h
-by-truth f nothing h = h
-by-truth f null h = h
-by-truth f (sequence vs) h = h
-by-truth f (mapping es) h = h
+by-truth f _ h = h
 
 abbrev EachByKind : List (ℕ × Prints) → Type 0
 EachByKind [] = Unit {0}

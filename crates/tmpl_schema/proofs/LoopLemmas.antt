@@ -1,6 +1,6 @@
 -- For the law `runs_safely`: what is found to be a copy loop is one.
-use Rattle.std.proofs.Common.{◌≡◌, ◌∙◌, ◌||◌, ℕ, Bool, true, false, not, List, [], ◌∷◌, Option, Some, None, Result, Ok, Err, refl, sym, subst, ap, if◌then◌else◌}
-use Rattle.std.proofs.lemmas.Bool.{and_parts, false≢true}
+use Rattle.std.proofs.Common.{◌≡◌, ◌∙◌, ◌||◌, ℕ, Bool, true, false, List, [], ◌∷◌, Option, Some, None, Result, Ok, Err, refl, sym, subst, ap, if◌then◌else◌}
+use Rattle.std.proofs.lemmas.Bool.{and_parts, false≢true, not-false, not-true, or_right}
 use Rattle.std.specs.Prelude.{◌&&◌, bytes_eq, MatchOption}
 use Rattle.std.specs.Option.{is_some}
 use Rattle.std.specs.Result.{result_ok}
@@ -8,11 +8,11 @@ use Rattle.tmpl_values.specs.Value.{Value, nothing}
 use Rattle.tmpl_values.specs.Text.{text_of}
 use Rattle.tmpl_values.specs.Truth.{truth}
 use Rattle.tmpl_funcs.specs.declared.func.Func.TheVariants.{Slice}
-use Rattle.tmpl_grammar.specs.Tree.{Operand, dot, fields, variable, group, function, Operands, no_operand, operand, Pipeline, no_command, command, Binding, unbound, assign, declare, declare_pair, Header}
+use Rattle.tmpl_grammar.specs.Tree.{Operand, dot, fields, variable, group, function, Operands, no_operand, operand, Pipeline, no_command, command, Binding, unbound, assign, Header}
 use Rattle.tmpl_grammar.specs.declared.tree.Control.{Control}
 use Rattle.tmpl_grammar.specs.declared.tree.Control.TheVariants as control
 use Rattle.tmpl_syntax.specs.Tree as tree
-use Rattle.tmpl_syntax.specs.Tree.{Tree, action, control_node, template_node, break_node, continue_node, Nodes}
+use Rattle.tmpl_syntax.specs.Tree.{Tree, action, control_node, template_node, Nodes}
 use Rattle.tmpl_syntax.specs.Set.{Template}
 use Rattle.tmpl_meaning.specs.Fault.{Cause}
 use Rattle.tmpl_meaning.specs.Pipeline.{Environment, commands_value}
@@ -30,24 +30,12 @@ use Rattle.tmpl_schema.specs.computed.Check.{State, pipeline_shape}
 use Rattle.tmpl_schema.specs.computed.Loops.{Acts, AreLoop, Chooses, EndsWell, HasValue, IsFound, byte_state}
 use Rattle.tmpl_schema.proofs.VariableLemmas.{place, pipeline-gives}
 
-or-right : (a b : Bool) → b ≡ true → (a || b) ≡ true
-or-right true b e = refl
-or-right false b e = e
-
-not-so : (b : Bool) → not b ≡ false → b ≡ true
-not-so true e = refl
-not-so false e = absurd (false≢true (sym e))
-
-not-no : (b : Bool) → not b ≡ true → b ≡ false
-not-no false e = refl
-not-no true e = absurd (false≢true e)
-
 -- a pipeline that is made of the byte alone is so by any other tests that the byte passes
 module _ (sees more : List ℕ → Bool) (is_byte : Pipeline → Bool) (passes : (name : List ℕ) → sees name ≡ true → more name ≡ true) where
   mutual
     operand-seen : (o : Operand) → is_seen sees (λ p. false) o ≡ true → is_seen more is_byte o ≡ true
     operand-seen (variable name []) e = passes name e
-    operand-seen (group cs []) e = or-right (is_byte cs) (are_all_seen more is_byte cs) (commands-seen cs e)
+    operand-seen (group cs []) e = or_right (is_byte cs) (are_all_seen more is_byte cs) (commands-seen cs e)
     operand-seen (variable name (f ∷ fs)) e = absurd (false≢true e)
     operand-seen (group cs (f ∷ fs)) e = absurd (false≢true e)
     operand-seen dot e = absurd (false≢true e)
@@ -121,9 +109,7 @@ module _ (base : Base) (N : Stands) (means : Means base.defs N) (set : List Temp
     stay (going None false) h = h
     stay (going (Some t) true) h = h
     stay (stopped name) h = h
-    stay (going None true) h = absurd h
-    stay (going (Some t) false) h = absurd h
-    stay refused h = absurd h
+    stay _ h = absurd h
 
     chosen : (q : Pipeline) → Valued q → (t u : Turn) → IsFine t → IsFine u → IsFine (choosing (value q) t u)
     chosen q h t u ft fu =
@@ -172,10 +158,9 @@ module _ (base : Base) (N : Stands) (means : Means base.defs N) (set : List Temp
     act-more xs more unbound q false anew h put e = keep-more xs more q h.0 anew h.1 put e
     act-more xs more unbound q true anew h put e = show-more xs more q h.0 anew h.1 put e
     act-more xs more (assign name) q kept anew h put e =
-        let test : (bytes_eq p.new name && is_yes (lone q)) ≡ true = λ i. not-so (bytes_eq p.new name) h.0 i && h.1 i in
+        let test : (bytes_eq p.new name && is_yes (lone q)) ≡ true = λ i. not-false (bytes_eq p.new name) h.0 i && h.1 i in
         subst (λ (c : Bool). IsFine (going_on (if c then going put true else refused) (after_nodes n value xs))) (sym test) (more kept true h.2 put e)
-    act-more xs more (declare name) q kept anew h put e = absurd h
-    act-more xs more (declare_pair key name) q kept anew h put e = absurd h
+    act-more xs more _ q kept anew h put e = absurd h
 
     choice-more : (c : Control) (h : Header) (xs body other : Nodes) (kept anew : Bool) → More body → More other
         → Chooses base set stops n p.byte k c h xs (EndsWell base set stops n p.byte k body kept anew) (EndsWell base set stops n p.byte k other kept anew)
@@ -185,9 +170,7 @@ module _ (base : Base) (N : Stands) (means : Means base.defs N) (set : List Temp
         let turn = choosing (value h.pipeline) (after_nodes n value body put anew) (after_nodes n value other put anew) in
         subst (λ (bound : Binding). IsFine (going_on (branching control.If bound turn) (after_nodes n value tree.none))) (sym e.0)
         (stay turn (chosen h.pipeline e.1 (after_nodes n value body put anew) (after_nodes n value other put anew) (f kept anew e.2 put is) (g kept anew e.3 put is)))
-    choice-more control.If h (tree.then line y ys) body other kept anew f g e put is = absurd e
-    choice-more control.With h xs body other kept anew f g e put is = absurd e
-    choice-more control.Range h xs body other kept anew f g e put is = absurd e
+    choice-more _ h xs body other kept anew f g e put is = absurd e
 
     ends-fine : (ns : Nodes) → More ns
     ends-fine tree.none kept anew h put e = at-end put kept anew e h
@@ -196,14 +179,13 @@ module _ (base : Base) (N : Stands) (means : Means base.defs N) (set : List Temp
     ends-fine (tree.then line (control_node c h body other) xs) kept anew g put e =
         choice-more c h xs body other kept anew (ends-fine body) (ends-fine other) g put e
     ends-fine (tree.then line (template_node name given) xs) kept anew g put e = g
-    ends-fine (tree.then line break_node xs) kept anew g put e = absurd g
-    ends-fine (tree.then line continue_node xs) kept anew g put e = absurd g
+    ends-fine (tree.then line _ xs) kept anew g put e = absurd g
 
 module _ (base : Base) (N : Stands) (means : Means base.defs N) (set : List Template) (stops : List (List ℕ)) (t : Tree) where
   of-parts : (p : Parts) → parts_of t.nodes ≡ Some p → AreLoop base set stops p → IsCopyLoop set stops t
   of-parts p is h =
       let found = finds_loops t.nodes p is h.closed h.apart in
-      let differs = not-no (bytes_eq p.byte p.text) (and_parts (differ p.byte p.text) _ h.apart).0 in (
+      let differs = not-true (bytes_eq p.byte p.text) (and_parts (differ p.byte p.text) _ h.apart).0 in (
         found.0,
         [],
         record {

@@ -10,7 +10,7 @@ use Rattle.tmpl_grammar.specs.Tree.{Pipeline, no_command, command, Header}
 use Rattle.tmpl_grammar.specs.declared.tree.Control.{Control}
 use Rattle.tmpl_grammar.specs.declared.tree.Control.TheVariants as control
 use Rattle.tmpl_syntax.specs.Tree as tree
-use Rattle.tmpl_syntax.specs.Tree.{NodeKind, text, action, control_node, break_node, continue_node, template_node}
+use Rattle.tmpl_syntax.specs.Tree.{NodeKind, text, action, control_node, template_node}
 use Rattle.tmpl_syntax.specs.Tree.{Nodes}
 use Rattle.tmpl_syntax.specs.Set.{Template}
 use Rattle.tmpl_funcs.specs.Func.{takes}
@@ -26,13 +26,13 @@ use Rattle.tmpl_shape.specs.computed.Shapes.{of_field, entry_shape, field_shape_
 use Rattle.tmpl_shape.specs.computed.Calls.{shape_by_function}
 use Rattle.tmpl_shape.specs.computed.Formats.{printf_shape}
 use Rattle.tmpl_schema.specs.Safe.{Covers}
-use Rattle.tmpl_schema.specs.computed.Check.{absent_field, Known, State, Callee, handed, absent, Table, Checked, variable_shape}
+use Rattle.tmpl_schema.specs.computed.Check.{absent_field, Known, State, Callee, handed, absent, Table, Checked, find_variable}
 use Rattle.tmpl_schema.specs.computed.Check.{alone, text_of, deciding_shape, passing_shape, passed}
 use Rattle.tmpl_schema.specs.computed.Check.{Origin, entry_at, entry_by, operand_origin, pipeline_origin}
 use Rattle.tmpl_schema.specs.computed.Check.{operand_shape, operand_shapes, junction_shape, entry_along, indexed_shape}
 use Rattle.tmpl_schema.specs.computed.Check.{sliced_shape, printed_shape, command_shape, commands_shape, pipeline_shape}
 use Rattle.tmpl_schema.specs.computed.Check.{After, all_within, end_parts, join_all, join_left, past, settle_known, settle_soon, with_left, last_of}
-use Rattle.tmpl_schema.specs.computed.Check.{leave_with, holds_loop, turn_known, in_body, in_other, at_start, is_safe}
+use Rattle.tmpl_schema.specs.computed.Check.{leave_with, holds_loop, turn_known, in_body, in_part, at_start, is_safe}
 use Rattle.tmpl_schema.specs.computed.Check.{at_head, after_choice, after_range, after_control, after_call}
 use Rattle.tmpl_schema.specs.computed.Check.{after_node, after_nodes, dot_after, past_parts}
 use Rattle.tmpl_schema.specs.declared.flow.FallThrough.{FallThrough}
@@ -115,7 +115,7 @@ module _ (base : Base) (m : MissingKey) where
   mutual
     operand-keeps : (o : Operand) (k : State) → Keeps (operand_shape base Error k o) (operand_shape base m k o)
     operand-keeps (fields names) k = chain-keeps names k.dot
-    operand-keeps (variable name names) k = same-keeps _ _ (variable_shape name k.env) (chain-keeps names)
+    operand-keeps (variable name names) k = same-keeps _ _ (find_variable name k.env) (λ v. chain-keeps names v.1)
     operand-keeps (group p names) k = then-keeps _ _ _ _ (chain-keeps names) (commands-keep p k None)
     operand-keeps o k = keeps-same (operand_shape base m k o)
 
@@ -203,7 +203,7 @@ module _ (base : Base) where
         → Keeps (after_choice base w c h k f other s) (after_choice base w c h k g rest s)
     choice-keeps w c f g other rest in_f in_rest s =
         then-keeps _ _ _ _ (λ a. then-keeps _ _ _ _ (λ b. keeps-same (end_parts base w k.env a b))
-        (in_rest (in_other base h k s))) (in_f (in_body base c h k s))
+        (in_rest (in_part base false h k s))) (in_f (in_body base c h k s))
 
     range-keeps : (w : FallThrough) (f g : Option Known → Checked) (other rest : Checked) → ((l : Option Known) → KeepsEach (f l) (g l))
         → KeepsEach other rest → (v : Visit) → Keeps (after_range base w h k f other v) (after_range base w h k g rest v)
@@ -246,10 +246,9 @@ module _ (base : Base) (m : MissingKey) (table : Table) where
         (then-keeps _ _ _ _
         (control-keeps base h k (past_parts c table body other) c loop _ _ _ _ (λ l u. nodes-keep body l None u) (λ u. nodes-keep other loop None u))
         (pipeline-keeps base m h.pipeline k)) tt
-    node-keeps break_node loop k = keeps-same (leave_with k.env loop)
-    node-keeps continue_node loop k = keeps-same (leave_with k.env loop)
     node-keeps (template_node name given) loop k =
         same-keeps _ _ (table name) (λ c. call-keeps base c k.env _ _ (given-keeps given k))
+    node-keeps _ loop k = keeps-same (leave_with k.env loop)
 
     nodes-keep : (ns : Nodes) (loop left : Option Known) (k : State)
         → Keeps (after_nodes base Error table loop left k ns) (after_nodes base m table loop left k ns)

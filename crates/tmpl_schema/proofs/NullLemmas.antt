@@ -11,7 +11,7 @@ use Rattle.tmpl_shape.specs.computed.Means.{Means}
 use Rattle.tmpl_shape.specs.computed.Shapes.{Base, has_kind, null_gone_by, null_gone}
 use Rattle.tmpl_shape.specs.declared.kind.Kind.TheVariants.{Blank}
 use Rattle.tmpl_shape.proofs.KindLemmas.{has_kind-has}
-use Rattle.tmpl_shape.proofs.ShapeLemmas.{join-left, join-right}
+use Rattle.tmpl_schema.proofs.FieldLemmas.{join-has}
 
 no_null : (c : Constant) → without_null (value_of c) ≡ value_of c
 no_null (constant.Bool b) = refl
@@ -29,10 +29,8 @@ module _ (base : Base) (N : Names) (means : Means base.defs N) where
   null_gone_by-has (suc n) nulls _ h = absurd h
   null_gone_by-has (suc n) anything v h = tt
   null_gone_by-has (suc n) (either s t) v h =
-      elim h [
-        | inl x ↦ join-left base N means (null_gone_by base n s) (null_gone_by base n t) (without_null v) (null_gone_by-has n s v x)
-        | inr x ↦ join-right base N means (null_gone_by base n s) (null_gone_by base n t) (without_null v) (null_gone_by-has n t v x)
-      ]
+      join-has base N means (null_gone_by base n s) (null_gone_by base n t) (without_null v)
+      (elim h [ inl x ↦ inl (null_gone_by-has n s v x) | inr x ↦ inr (null_gone_by-has n t v x) ])
   null_gone_by-has (suc n) (named x) v h = by (has_kind base Blank (named x)) refl (λ s. null_gone_by-has n s v)
     where
       known : (w : Value) → N x w → HasShape N (either (named x) nothings) (without_null w)

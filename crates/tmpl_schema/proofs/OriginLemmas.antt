@@ -1,10 +1,10 @@
 -- For the law `runs_safely`: chains of fields, and the values at their ends, whatever the mode for missing keys.
-use Rattle.std.proofs.Common.{◌≡◌, ◌∙◌, ◌++◌, ◌<◌, Bool, true, false, List, [], ◌∷◌, length, ℕ, Some, None, IsSome, Result, Ok, Err, ap, refl, sym, subst, if◌then◌else◌}
+use Rattle.std.proofs.Common.{◌≡◌, ◌∙◌, ◌++◌, ◌<◌, ◌⊎◌, inl, inr, Bool, true, false, List, [], ◌∷◌, length, ℕ, Some, None, IsSome, Result, Ok, Err, ap, refl, sym, subst, if◌then◌else◌}
 use Rattle.std.specs.Prelude.{pos}
 use Rattle.tmpl_values.specs.Elements.{values_of_items}
 use Rattle.std.proofs.lemmas.Bool.{false≢true, and_parts}
 use Rattle.std.specs.Str.{bytes_eq}
-use Rattle.tmpl_values.specs.Value.{Value, nothing, null, boolean, number, string, sequence, mapping}
+use Rattle.tmpl_values.specs.Value.{Value, nothing, null, number, string, sequence, mapping}
 use Rattle.tmpl_values.specs.Field.{FieldValue, entry_at, found, missing, of_nothing, no_field, field_at}
 use Rattle.tmpl_values.specs.Stage.{and_then}
 use Rattle.tmpl_values.specs.Compare.{is_nothing}
@@ -13,15 +13,13 @@ use Rattle.tmpl_meaning.specs.Pipeline.{chain, field_value, without_null}
 use Rattle.tmpl_meaning.specs.declared.missing_key.MissingKey.{MissingKey}
 use Rattle.tmpl_meaning.specs.declared.missing_key.MissingKey.TheVariants as mode
 use Rattle.tmpl_shape.proofs.ShapeLemmas.{same_name}
-use Rattle.tmpl_schema.specs.computed.Check.{Origin, Tie, untied, valued, keyed, is_path, join_ties, key_tie, owner_of, path_of, rest_of, tie_of, tie_within}
+use Rattle.tmpl_schema.specs.computed.Check.{Origin, Tie, untied, valued, keyed, is_path, join_ties, key_tie, path_of, rest_of, tie_of, tie_within}
 
 -- fields of nothing and of null are nothing or null, and so are those that are missing
 nothing-ends : (m : MissingKey) (ns : List (List ℕ)) (x : Value) → chain m ns nothing ≡ Ok x → is_nothing x ≡ true
 nothing-ends m [] x e = let same : nothing ≡ x = cc in sym (ap is_nothing same)
 nothing-ends mode.Error (n ∷ ns) x e = cc
-nothing-ends mode.Zero (n ∷ ns) x e = nothing-ends mode.Zero ns x e
-nothing-ends mode.Default (n ∷ ns) x e = nothing-ends mode.Default ns x e
-nothing-ends mode.Invalid (n ∷ ns) x e = nothing-ends mode.Invalid ns x e
+nothing-ends m (n ∷ ns) x e = nothing-ends m ns x e
 
 null-ends : (m : MissingKey) (ns : List (List ℕ)) (x : Value) → chain m ns null ≡ Ok x → is_nothing x ≡ true
 null-ends m [] x e = let same : null ≡ x = cc in sym (ap is_nothing same)
@@ -30,24 +28,17 @@ null-ends m (n ∷ ns) x e = cc
 missing-ends : (m : MissingKey) (n : List ℕ) (ns : List (List ℕ)) (x : Value) → and_then (field_value m n missing) (chain m ns) ≡ Ok x → is_nothing x ≡ true
 missing-ends mode.Error n ns x e = cc
 missing-ends mode.Zero n ns x e = null-ends mode.Zero ns x e
-missing-ends mode.Default n ns x e = nothing-ends mode.Default ns x e
-missing-ends mode.Invalid n ns x e = nothing-ends mode.Invalid ns x e
+missing-ends m n ns x e = nothing-ends m ns x e
 
 of_nothing-ends : (m : MissingKey) (n : List ℕ) (ns : List (List ℕ)) (x : Value) → and_then (field_value m n of_nothing) (chain m ns) ≡ Ok x → is_nothing x ≡ true
 of_nothing-ends mode.Error n ns x e = cc
-of_nothing-ends mode.Zero n ns x e = nothing-ends mode.Zero ns x e
-of_nothing-ends mode.Default n ns x e = nothing-ends mode.Default ns x e
-of_nothing-ends mode.Invalid n ns x e = nothing-ends mode.Invalid ns x e
+of_nothing-ends m n ns x e = nothing-ends m ns x e
 
 -- what has a field that is neither is neither
 thing-before : (m : MissingKey) (ns : List (List ℕ)) (u x : Value) → chain m ns u ≡ Ok x → is_nothing x ≡ false → is_nothing u ≡ false
 thing-before m ns nothing x e t = sym (nothing-ends m ns x e) ∙ t
 thing-before m ns null x e t = sym (null-ends m ns x e) ∙ t
-thing-before m ns (boolean b) x e t = refl
-thing-before m ns (number n) x e t = refl
-thing-before m ns (string s) x e t = refl
-thing-before m ns (sequence vs) x e t = refl
-thing-before m ns (mapping es) x e t = refl
+thing-before m ns _ x e t = refl
 
 -- what is neither is there in each mode
 pub chain-modes : (m k : MissingKey) (ns : List (List ℕ)) (u x : Value) → chain m ns u ≡ Ok x → is_nothing x ≡ false → chain k ns u ≡ Ok x
@@ -94,12 +85,7 @@ at-root u = at-chain mode.Error [] u u refl
 
 pub at-gone : (ps : List (List ℕ)) (u x : Value) → IsAt ps u x → IsAt ps u (without_null x)
 at-gone ps u null h = (λ m w e t. absurd (false≢true (sym t ∙ ap is_nothing (h.0 m w e t))), λ t m. absurd (false≢true (sym t)))
-at-gone ps u nothing h = h
-at-gone ps u (boolean b) h = h
-at-gone ps u (number n) h = h
-at-gone ps u (string s) h = h
-at-gone ps u (sequence vs) h = h
-at-gone ps u (mapping es) h = h
+at-gone ps u _ h = h
 
 pub at-joined : (ps ns : List (List ℕ)) (top u x : Value) → IsAt ps top u → IsAt ns u x → IsAt (ps ++ ns) top x
 at-joined ps ns top u x h g = (same, λ t m. chain-joined m ps ns top u (h.1 (thing-before m ns u x (g.1 t m) t) m) ∙ g.1 t m)
@@ -132,8 +118,7 @@ is_path-same (p ∷ ps) (n ∷ ns) e =
     let h = and_parts (bytes_eq p n) (is_path ps ns) e in
     let same : p ≡ n = same_name p n h.0 in
     let rest : ps ≡ ns = is_path-same ps ns h.1 in cc
-is_path-same [] (n ∷ ns) e = absurd (false≢true e)
-is_path-same (p ∷ ps) [] e = absurd (false≢true e)
+is_path-same _ _ e = absurd (false≢true e)
 
 -- .. from the data of a template
 abbrev pub HasOrigin : Value → Origin → Value → Type 0
@@ -163,44 +148,25 @@ path-has top untied x h = tt
 path-has top (valued ps) x h = h
 path-has top (keyed ps) x h = tt
 
-pub owner-has : (top : Value) (t : Tie) (x : Value) → HasTie top t x → HasTie top (key_tie (owner_of t)) x
-owner-has top untied x h = tt
-owner-has top (valued ps) x h = tt
-owner-has top (keyed ps) x h = h
-
 pub tie_within-has : (top : Value) (t u : Tie) (x : Value) → tie_within t u ≡ true → HasTie top t x → HasTie top u x
 tie_within-has top t untied x e h = tt
 tie_within-has top (valued ps) (valued ns) x e h = subst (λ (qs : List (List ℕ)). IsAt qs top x) (is_path-same ps ns e) h
 tie_within-has top (keyed ps) (keyed ns) x e h = subst (λ (qs : List (List ℕ)). HasTie top (keyed qs) x) (is_path-same ps ns e) h
-tie_within-has top untied (valued ns) x e h = absurd (false≢true e)
-tie_within-has top (keyed ps) (valued ns) x e h = absurd (false≢true e)
-tie_within-has top untied (keyed ns) x e h = absurd (false≢true e)
-tie_within-has top (valued ps) (keyed ns) x e h = absurd (false≢true e)
+tie_within-has top _ _ x e h = absurd (false≢true e)
 
 -- what is known of one of two is known of both
-pub ties-left : (top : Value) (t u : Tie) (x : Value) → HasTie top t x → HasTie top (join_ties t u) x
-ties-left top t u x h = by (tie_within t u) refl
+pub ties-has : (top : Value) (t u : Tie) (x : Value) → HasTie top t x ⊎ HasTie top u x → HasTie top (join_ties t u) x
+ties-has top t u x h = by (tie_within t u) refl
   where
     by : (b : Bool) → tie_within t u ≡ b → HasTie top (if b then u else untied) x
-    by true e = tie_within-has top t u x e h
+    by true e = elim h [
+      | inl y ↦ tie_within-has top t u x e y
+      | inr y ↦ y
+    ]
     by false e = tt
-
-pub ties-right : (top : Value) (t u : Tie) (x : Value) → HasTie top u x → HasTie top (join_ties t u) x
-ties-right top t u x h = by (tie_within t u)
-  where
-    by : (b : Bool) → HasTie top (if b then u else untied) x
-    by true = h
-    by false = tt
 
 -- an index or a key of a value at a chain is one of what is there
 pub key-tied : (top : Value) (o : Origin) (v x : Value) → HasOrigin top o v → is_nothing v ≡ false → IsKeyOf v x → HasTie top (key_tie o) x
 key-tied top None v x h t k = tt
 key-tied top (Some ps) v x h t k =
     λ u at there. subst (λ (w : Value). IsKeyOf w x) (at.0 mode.Error v (h.1 t mode.Error) t) k
-
--- .. and the other way round
-pub is-key : (top : Value) (ps : List (List ℕ)) (v x : Value) → HasTie top (keyed ps) x → IsAt ps top v → is_nothing v ≡ false → IsKeyOf v x
-is-key top ps v x h at there = h v at there
-
-pub path-same : (ps ns : List (List ℕ)) → is_path ps ns ≡ true → ps ≡ ns
-path-same ps ns e = is_path-same ps ns e

@@ -15,7 +15,7 @@ use Rattle.tmpl_shape.specs.Shape.{Shape, never, texts, exactly, list_of, either
 use Rattle.tmpl_shape.specs.computed.Means.{Means}
 use Rattle.tmpl_shape.proofs.ConstantLemmas.{kind-has}
 use Rattle.tmpl_shape.specs.computed.Shapes.{Base, kind_shape, list_part, text_part, part_shape_by, part_shape}
-use Rattle.tmpl_schema.proofs.FieldLemmas.{Gives, both-left, both-right}
+use Rattle.tmpl_schema.proofs.FieldLemmas.{Gives, both-give}
 
 module _ (P : Value → Type 0) where
   -- an item before the end
@@ -96,10 +96,8 @@ module _ (base : Base) (N : Names) (means : Means base.defs N) where
   part_by-gives (suc k) i to (list_of n s) (sequence vs) h = list-gives i to n s vs h.0 h.1
   part_by-gives (suc k) i to (list_of n s) _ h = absurd h
   part_by-gives (suc k) i to (either s t) v h =
-      elim h [
-        | inl x ↦ (both-left base N means) (part_shape_by base k i to s) (part_shape_by base k i to t) (part_told i to v) (part_by-gives k i to s v x)
-        | inr x ↦ (both-right base N means) (part_shape_by base k i to s) (part_shape_by base k i to t) (part_told i to v) (part_by-gives k i to t v x)
-      ]
+      (both-give base N means) (part_shape_by base k i to s) (part_shape_by base k i to t) (part_told i to v)
+      (elim h [ inl x ↦ inl (part_by-gives k i to s v x) | inr x ↦ inr (part_by-gives k i to t v x) ])
   part_by-gives (suc k) i to (named y) v h = by (base.defs y) refl (λ s. part_by-gives k i to s v)
     where
       by : (o : Option Shape) → base.defs y ≡ o → ((s : Shape) → HasShape N s v → (Gives base N means) (part_shape_by base k i to s) (part_told i to v))

@@ -13,9 +13,9 @@ use Rattle.tmpl_meaning.specs.declared.missing_key.MissingKey.{MissingKey}
 use Rattle.tmpl_shape.specs.Shape.{Shape}
 use Rattle.tmpl_shape.specs.declared.kind.Kinds.{Kinds}
 use Rattle.tmpl_shape.specs.computed.Shapes.{Base, kinds_of}
-use Rattle.tmpl_shape.specs.computed.Calls.{call_shape, kinds_shape}
+use Rattle.tmpl_shape.specs.computed.Calls.{kinds_shape}
 use Rattle.tmpl_schema.specs.computed.Check.{State, calls, is_value, head_of, alone, command_shape, operand_shape, operand_shapes, printed_shape, text_of}
-use Rattle.tmpl_shape.specs.computed.Formats.{printed_kinds, printf_shape}
+use Rattle.tmpl_shape.specs.computed.Formats.{printed_kinds}
 use Rattle.tmpl_schema.specs.computed.View.{argument_kinds, called_shape}
 
 pub operand_count-of : (os : List held.Operand) → operand_count (operands_in os) ≡ length os
@@ -59,23 +59,23 @@ module _ (base : Base) (m : MissingKey) (k : State) where
       by None e = cc
       by (Some ms) e = e
 
-  pub called-by : (f : Func) (os : Operands) (piped : Option Shape) (ks : List Kinds) (s : Shape) → argument_kinds base m k os piped ≡ Some ks
-      → kinds_shape f ks ≡ Some s → called_shape base m k f os piped ≡ Some s
-  called-by f os piped ks s is call = by (operand_shapes base m k os) is
+  -- what is computed of the kinds of arguments
+  by-kinds : (g : List Kinds → Option Shape) (os : Operands) (piped : Option Shape) (ks : List Kinds) (s : Shape) → argument_kinds base m k os piped ≡ Some ks
+      → g ks ≡ Some s → option_and_then (λ ts. g (map (kinds_of base) (ts ++ option_to_list piped))) (operand_shapes base m k os) ≡ Some s
+  by-kinds g os piped ks s is call = by (operand_shapes base m k os) is
     where
       by : (r : Option (List Shape)) → option_map (λ ts. map (kinds_of base) (ts ++ option_to_list piped)) r ≡ Some ks
-          → option_and_then (λ ts. call_shape base f (ts ++ option_to_list piped)) r ≡ Some s
+          → option_and_then (λ ts. g (map (kinds_of base) (ts ++ option_to_list piped))) r ≡ Some s
       by None e = cc
       by (Some ts) e = let same : map (kinds_of base) (ts ++ option_to_list piped) ≡ ks = cc in rw same call
 
+  pub called-by : (f : Func) (os : Operands) (piped : Option Shape) (ks : List Kinds) (s : Shape) → argument_kinds base m k os piped ≡ Some ks
+      → kinds_shape f ks ≡ Some s → called_shape base m k f os piped ≡ Some s
+  called-by f os piped ks s is call = by-kinds (kinds_shape f) os piped ks s is call
+
   pub printed-by : (o : Operand) (os : Operands) (piped : Option Shape) (format : List ℕ) (ks : List Kinds) (s : Shape) → text_of o ≡ Some format
       → argument_kinds base m k os piped ≡ Some ks → printed_kinds format ks ≡ Some s → printed_shape base m k (operand o os) piped ≡ Some s
-  printed-by o os piped format ks s text is call = rw text (by (operand_shapes base m k os) is)
-    where
-      by : (r : Option (List Shape)) → option_map (λ ts. map (kinds_of base) (ts ++ option_to_list piped)) r ≡ Some ks
-          → option_and_then (λ ts. printf_shape base format (ts ++ option_to_list piped)) r ≡ Some s
-      by None e = cc
-      by (Some ts) e = let same : map (kinds_of base) (ts ++ option_to_list piped) ≡ ks = cc in rw same call
+  printed-by o os piped format ks s text is call = rw text (by-kinds (printed_kinds format) os piped ks s is call)
 
   -- a command of a function that is called as most are
   pub function-by : (f : Func) (os : Operands) (piped : Option Shape) (s : Shape) → (f ≡ func.And → ⊥) → (f ≡ func.Or → ⊥) → (f ≡ func.Index → ⊥) → (f ≡ func.Slice → ⊥) → (f ≡ func.Printf → ⊥)

@@ -2,24 +2,24 @@
 -- shapes that are computed.
 use Rattle.std.specs.Prelude.{◌++◌, ℤ, pos, not, Contains}
 use Rattle.std.specs.Ordering.{int_eq}
-use Rattle.std.proofs.Common.{inl, inr, rules, ◌≡◌, ◌-◌, ◌≤◌, ◌||◌, ℕ, zero, suc, nat_eq, Bool, true, false, List, [], ◌∷◌, Option, Some, None, Result, Ok, Err, IfSome, IsSome, arith, ◌+◌, length, map, ap, refl, sym, subst, ◌∙◌, if◌then◌else◌}
+use Rattle.std.proofs.Common.{◌⊎◌, inl, inr, rules, ◌≡◌, ◌-◌, ◌≤◌, ◌||◌, ℕ, zero, suc, nat_eq, Bool, true, false, List, [], ◌∷◌, Option, Some, None, Result, Ok, Err, IfSome, IsSome, arith, ◌+◌, length, map, ap, refl, sym, subst, ◌∙◌, if◌then◌else◌}
 use Rattle.std.proofs.lemmas.Bool.{false≢true}
 use Rattle.std.proofs.lemmas.Bool.Decides.{Decides-int_eq}
 use Rattle.std.proofs.lemmas.Slice.Eq.{bytes_eq-Decides}
 use Rattle.std.proofs.lemmas.Option.{cond_some, option_and_then_some}
 use Rattle.std.specs.Option.{option_and_then, option_map, option_map_or}
-use Rattle.tmpl_values.specs.Value.{Value, nothing, null, boolean, number, string, sequence, mapping, Items, no_item, item, Entries, no_entry, entry}
-use Rattle.tmpl_values.specs.Elements.{Element, elements, elements_of_entries, pairs, values_of_items}
+use Rattle.tmpl_values.specs.Value.{Value, nothing, null, number, string, sequence, mapping, Items, no_item, item, Entries, no_entry, entry}
+use Rattle.tmpl_values.specs.Elements.{Element, elements, elements_of_entries, values_of_items}
 use Rattle.tmpl_values.specs.Truth.{truth}
 use Rattle.tmpl_values.specs.Compare.{is_nothing}
 use Rattle.tmpl_values.specs.Field.{entry_at}
 use Rattle.std.specs.List.{enumerate_from}
 use Rattle.std.specs.Str.{bytes_eq}
-use Rattle.tmpl_grammar.specs.Tree.{Pipeline, Binding, unbound, declare, assign, declare_pair, Header}
+use Rattle.tmpl_grammar.specs.Tree.{Pipeline, Binding, unbound, declare_pair, Header}
 use Rattle.tmpl_grammar.specs.declared.tree.Control.{Control}
 use Rattle.tmpl_grammar.specs.declared.tree.Control.TheVariants as control
 use Rattle.tmpl_syntax.specs.Tree as tree
-use Rattle.tmpl_syntax.specs.Tree.{NodeKind, Nodes, Tree, text, action, control_node, break_node, continue_node, template_node}
+use Rattle.tmpl_syntax.specs.Tree.{NodeKind, Nodes, Tree, text, action, control_node, template_node}
 use Rattle.tmpl_syntax.specs.Set.{Template, tree_named}
 use Rattle.tmpl_meaning.specs.Fault.{Cause, no_template, steps_spent}
 use Rattle.tmpl_meaning.specs.Meaning.{Calls, End, Next, Rules, Run, Setting, broke, continued, calls_within, done, fault_of, faulted}
@@ -32,11 +32,11 @@ use Rattle.tmpl_schema.specs.Safe.{MayEnd}
 use Rattle.tmpl_shape.specs.computed.Means.{Means}
 use Rattle.tmpl_shape.specs.computed.Shapes.{Base, within, fill, Visit, visit_of}
 use Rattle.tmpl_schema.specs.computed.Check.{After, Known, State, Callee, handed, absent, past, Table, Checked, last_of, all_within, join_all, join_left, settle_known, settle_soon, leave_with, with_left}
-use Rattle.tmpl_schema.specs.computed.Check.{holds_loop, dot_in, in_body, in_other, after_choice, at_head, in_turn, turn_known, after_range, after_call, after_control, after_node, after_nodes}
+use Rattle.tmpl_schema.specs.computed.Check.{holds_loop, dot_in, in_body, in_part, after_choice, at_head, in_turn, turn_known, after_range, after_call, after_control, after_node, after_nodes}
 use Rattle.tmpl_schema.specs.declared.flow.FallThrough.{FallThrough}
 use Rattle.tmpl_schema.specs.declared.flow.FallThrough.TheVariants.{Both, Body, Other}
 use Rattle.tmpl_schema.specs.computed.Check.{after_parts, end_parts, dot_after, dot_by, is_absent, diverges, any_diverges, fall_through, past_parts}
-use Rattle.tmpl_schema.specs.computed.Check.{Origin, key_tie, pipeline_origin, pipeline_shape, narrow, bound_shapes, at_start, is_safe}
+use Rattle.tmpl_schema.specs.computed.Check.{Origin, key_tie, pipeline_origin, pipeline_shape, narrow, bind_value, bound_shapes, at_start, is_safe}
 use Rattle.tmpl_schema.specs.computed.Safe.{IsAccepted, IsCallee, IsChecked}
 use Rattle.tmpl_loops.specs.Form.{Loop, Turn, stopped, turn_of}
 use Rattle.tmpl_loops.specs.Law.{EndsWith, IsLoop, IsTurn, MayFault, copied_by}
@@ -44,7 +44,7 @@ use Rattle.tmpl_loops.proofs.CopyLemmas.{calls_copy}
 use Rattle.tmpl_schema.proofs.LoopLemmas.{found-loop}
 use Rattle.tmpl_shape.proofs.ShapeLemmas.{within-has}
 use Rattle.tmpl_schema.proofs.FieldLemmas.{Gives, Each, IsVisit, Visits, fill-has, visit-gives}
-use Rattle.tmpl_schema.proofs.VariableLemmas.{above-zero, HasKnown, Fits, place, known-length, last-known, last-last, within-known, joined-left, joined-right, both-known, bound-known}
+use Rattle.tmpl_schema.proofs.VariableLemmas.{above-zero, HasKnown, Fits, place, known-length, last-known, last-last, within-known, joined-has, both-known, bound-known, value-known}
 use Rattle.tmpl_schema.proofs.VariableLemmas.{pipeline-gives, pipeline-has, narrow-fits}
 use Rattle.tmpl_schema.proofs.OriginLemmas.{HasOrigin, HasTie, IsKeyOf, at-root, key-tied}
 
@@ -54,9 +54,6 @@ mapped_some (Some x) t y e = (x, refl, cc)
 
 -- what has an element is not empty
 elements-true : (v : Value) (e : Element) (es : List Element) → elements v ≡ Some (e ∷ es) → truth v ≡ true
-elements-true nothing e es is = cc
-elements-true null e es is = cc
-elements-true (boolean b) e es is = cc
 elements-true (number z) e es is = by (int_eq z (pos 0)) refl
   where
     by : (b : Bool) → int_eq z (pos 0) ≡ b → not b ≡ true
@@ -64,30 +61,15 @@ elements-true (number z) e es is = by (int_eq z (pos 0)) refl
         let none : elements (number (pos 0)) ≡ Some (e ∷ es) =
         subst (λ (i : ℤ). elements (number i) ≡ Some (e ∷ es)) ((Decides-int_eq z (pos 0)).0 q) is in cc
     by false q = refl
-elements-true (string t) e es is = cc
-elements-true (sequence no_item) e es is = cc
 elements-true (sequence (item v vs)) e es is = above-zero (length (values_of_items vs))
-elements-true (mapping no_entry) e es is = cc
 elements-true (mapping (entry x v xs)) e es is = above-zero (length (elements_of_entries xs))
+elements-true _ e es is = cc
 
 visited-true : (b : Binding) (v : Value) (e : Element) (es : List Element) → elements_visited b v ≡ Some (e ∷ es) → truth v ≡ true
 visited-true (declare_pair key name) (number n) e es is = cc
-visited-true (declare_pair key name) nothing e es is = elements-true nothing e es is
-visited-true (declare_pair key name) null e es is = elements-true null e es is
-visited-true (declare_pair key name) (boolean b) e es is = elements-true (boolean b) e es is
-visited-true (declare_pair key name) (string t) e es is = elements-true (string t) e es is
-visited-true (declare_pair key name) (sequence vs) e es is = elements-true (sequence vs) e es is
-visited-true (declare_pair key name) (mapping xs) e es is = elements-true (mapping xs) e es is
-visited-true unbound v e es is = elements-true v e es is
-visited-true (declare name) v e es is = elements-true v e es is
-visited-true (assign name) v e es is = elements-true v e es is
+visited-true _ v e es is = elements-true v e es is
 
 -- ---- indexes and keys
-
--- with two variables a range visits the same, but for numbers
-elements-same : (b : Binding) (v : Value) → pairs v ≡ elements v → elements_visited b v ≡ elements v
-elements-same (declare_pair key name) (number n) e = cc
-elements-same _ v e = refl
 
 abbrev AllKeys : Value → List Element → Type 0
 AllKeys v [] = Unit {0}
@@ -100,11 +82,7 @@ AreKeys v (Some es) = AllKeys v es
 key-there : (v x : Value) → IsKeyOf v x → is_nothing v ≡ false
 key-there nothing x h = absurd h
 key-there null x h = absurd h
-key-there (boolean b) x h = refl
-key-there (number n) x h = refl
-key-there (string s) x h = refl
-key-there (sequence vs) x h = refl
-key-there (mapping es) x h = refl
+key-there _ x h = refl
 
 count-keys : (n : ℤ) (is : List ℕ) → AllKeys (number n) (map (λ i. (number (pos i), number (pos i))) is)
 count-keys n [] = tt
@@ -129,15 +107,10 @@ entry-keys all (entry k v es) f = (f k (first (bytes_eq k k) ((bytes_eq-Decides 
 
 visited-keys : (b : Binding) (v : Value) → AreKeys v (elements_visited b v)
 visited-keys (declare_pair key name) (number n) = tt
-visited-keys unbound (number n) = count-keys n _
-visited-keys (declare name) (number n) = count-keys n _
-visited-keys (assign name) (number n) = count-keys n _
-visited-keys b (sequence vs) = rw (elements-same b (sequence vs) refl) (item-keys vs vs 0 (omega arith))
-visited-keys b (mapping es) = rw (elements-same b (mapping es) refl) (entry-keys es es (λ k h. h))
-visited-keys b nothing = rw (elements-same b nothing refl) tt
-visited-keys b null = rw (elements-same b null refl) tt
-visited-keys b (boolean c) = rw (elements-same b (boolean c) refl) tt
-visited-keys b (string s) = rw (elements-same b (string s) refl) tt
+visited-keys _ (number n) = count-keys n _
+visited-keys _ (sequence vs) = item-keys vs vs 0 (omega arith)
+visited-keys _ (mapping es) = entry-keys es es (λ k h. h)
+visited-keys _ _ = tt
 
 module _ (base : Base) (N : Names) (means : Means base.defs N) (stops : List (List ℕ)) where
   -- ---- calls
@@ -178,21 +151,15 @@ module _ (base : Base) (N : Names) (means : Means base.defs N) (stops : List (Li
   Ends loop a q = EndsSo loop a q.1 q.0.env
 
   -- where a range is left is among what is joined with it
-  left-first : (loop left more all : Option Known) → join_left base left more ≡ Some all → (env : Environment) → InLoop loop left env → InLoop loop all env
-  left-first None left more all e env h = absurd h
-  left-first (Some head) None more all e env h = absurd h
-  left-first (Some head) (Some ks) None all e env h = let same : Some ks ≡ all = cc in subst (λ (x : Option Known). InLoop (Some head) x env) same h
-  left-first (Some head) (Some ks) (Some ls) all e env h =
+  left-joined : (loop left more all : Option Known) → join_left base left more ≡ Some all → (env : Environment) → InLoop loop left env ⊎ InLoop loop more env → InLoop loop all env
+  left-joined None left more all e env h = elim h [ inl x ↦ absurd x | inr x ↦ absurd x ]
+  left-joined (Some head) None more all e env (inl x) = absurd x
+  left-joined (Some head) None more all e env (inr x) = let same : more ≡ all = cc in subst (λ (y : Option Known). InLoop (Some head) y env) same x
+  left-joined (Some head) (Some ks) None all e env (inl x) = let same : Some ks ≡ all = cc in subst (λ (y : Option Known). InLoop (Some head) y env) same x
+  left-joined (Some head) (Some ks) None all e env (inr x) = absurd x
+  left-joined (Some head) (Some ks) (Some ls) all e env h =
       let p = mapped_some (join_all base ks ls) (λ js. Some js) all e in
-      subst (λ (x : Option Known). InLoop (Some head) x env) p.2 ((joined-left base N means top) ks ls p.0 (last_of (length head) env) p.1 h)
-
-  left-second : (loop left more all : Option Known) → join_left base left more ≡ Some all → (env : Environment) → InLoop loop more env → InLoop loop all env
-  left-second None left more all e env h = absurd h
-  left-second (Some head) None more all e env h = let same : more ≡ all = cc in subst (λ (x : Option Known). InLoop (Some head) x env) same h
-  left-second (Some head) (Some ks) None all e env h = absurd h
-  left-second (Some head) (Some ks) (Some ls) all e env h =
-      let p = mapped_some (join_all base ks ls) (λ js. Some js) all e in
-      subst (λ (x : Option Known). InLoop (Some head) x env) p.2 ((joined-right base N means top) ks ls p.0 (last_of (length head) env) p.1 h)
+      subst (λ (y : Option Known). InLoop (Some head) y env) p.2 ((joined-has base N means top) ks ls p.0 (last_of (length head) env) p.1 h)
 
   -- what two parts come to
   ends-of : (w : FallThrough) (rs : Known) (a b out : After) → end_parts base w rs a b ≡ Some out
@@ -214,8 +181,7 @@ module _ (base : Base) (N : Names) (means : Means base.defs N) (stops : List (Li
       → (end ≡ done → (HasKnown base N means top) middle.env q.env → Ends loop out (go q)) → EndsSo loop middle end q.env → Ends loop out (on_end end q go)
   after-ends loop middle out go q done kept h e = h refl e
   after-ends loop middle out go q (faulted f) kept h e = e
-  after-ends loop middle out go q broke kept h e = kept e
-  after-ends loop middle out go q continued kept h e = kept e
+  after-ends loop middle out go q _ kept h e = kept e
 
   loop-length : (head : Known) (ks : Known) → holds_loop (Some head) ks ≡ true → length head ≤ length ks
   loop-length head ks h = search rules
@@ -235,11 +201,8 @@ module _ (base : Base) (N : Names) (means : Means base.defs N) (stops : List (Li
       f refl _ (subst (λ (n : ℕ). (HasKnown base N means top) (last_of (length ks) inner.env) (last_of n env)) ((known-length base N means top) ks env0 k)
       ((last-known base N means top) (length ks) inner.env env e))
   scope-ends loop ks inner out env0 k holds (faulted c) env kept f e = e
-  scope-ends None ks inner out env0 k holds broke env kept f e = absurd e
-  scope-ends None ks inner out env0 k holds continued env kept f e = absurd e
-  scope-ends (Some head) ks inner out env0 k holds broke env kept f e =
-      in-scope head out.left env0 env (subst (λ (n : ℕ). length head ≤ n) ((known-length base N means top) ks env0 k) (loop-length head ks holds)) (kept env e)
-  scope-ends (Some head) ks inner out env0 k holds continued env kept f e =
+  scope-ends None ks inner out env0 k holds _ env kept f e = absurd e
+  scope-ends (Some head) ks inner out env0 k holds _ env kept f e =
       in-scope head out.left env0 env (subst (λ (n : ℕ). length head ≤ n) ((known-length base N means top) ks env0 k) (loop-length head ks holds)) (kept env e)
 
   -- ---- pipelines
@@ -287,20 +250,15 @@ module _ (base : Base) (N : Names) (means : Means base.defs N) (stops : List (Li
   NeverPastIn control.Range Other body other = ⊥
   NeverPastIn c w body other = NeverPast w body other
 
-  -- .. so the variables after both are those after the one that was run
-  body-known : (w : FallThrough) (rs a b out : Known) → after_parts base w rs a b ≡ Some out → (body other : Value → Next) → NeverPast w body other
-      → (d : Value) (r : Run) → (body d r).1 ≡ done → (env : Environment) → (HasKnown base N means top) (last_of (length rs) a) env → (HasKnown base N means top) out env
-  body-known Both rs a b out joint body other never d r is = ((both-known base N means top) rs a b out joint).0
-  body-known Body rs a b out joint body other never d r is =
-      λ env h. let same : last_of (length rs) a ≡ out = cc in subst (λ (x : Known). (HasKnown base N means top) x env) same h
-  body-known Other rs a b out joint body other never d r is = absurd (never d r is)
-
-  other-known : (w : FallThrough) (rs a b out : Known) → after_parts base w rs a b ≡ Some out → (body other : Value → Next) → NeverPast w body other
-      → (d : Value) (r : Run) → (other d r).1 ≡ done → (env : Environment) → (HasKnown base N means top) (last_of (length rs) b) env → (HasKnown base N means top) out env
-  other-known Both rs a b out joint body other never d r is = ((both-known base N means top) rs a b out joint).1
-  other-known Body rs a b out joint body other never d r is = absurd (never d r is)
-  other-known Other rs a b out joint body other never d r is =
-      λ env h. let same : last_of (length rs) b ≡ out = cc in subst (λ (x : Known). (HasKnown base N means top) x env) same h
+  -- .. so the variables after both are those after either that a run may have come past
+  parts-known : (w : FallThrough) (rs a b out : Known) → after_parts base w rs a b ≡ Some out → (env : Environment)
+      → ((w ≡ Other → ⊥) × (HasKnown base N means top) (last_of (length rs) a) env) ⊎ ((w ≡ Body → ⊥) × (HasKnown base N means top) (last_of (length rs) b) env)
+      → (HasKnown base N means top) out env
+  parts-known Both rs a b out joint env h = (both-known base N means top) rs a b out joint env (elim h [ inl x ↦ inl x.1 | inr x ↦ inr x.1 ])
+  parts-known Body rs a b out joint env (inl x) = let same : last_of (length rs) a ≡ out = cc in subst (λ (y : Known). (HasKnown base N means top) y env) same x.1
+  parts-known Body rs a b out joint env (inr x) = absurd (x.0 refl)
+  parts-known Other rs a b out joint env (inl x) = absurd (x.0 refl)
+  parts-known Other rs a b out joint env (inr x) = let same : last_of (length rs) b ≡ out = cc in subst (λ (y : Known). (HasKnown base N means top) y env) same x.1
 
   choice-ends : (w : FallThrough) (c : Control) (h : Header) (k : State) (loop : Option Known) (f g : Checked) (body other : Value → Next) (sh : Shape) (out : After)
       → after_choice base w c h k f g sh ≡ Some out → holds_loop loop k.env ≡ true → PartHas loop f body → PartHas loop g other → NeverPast w body other
@@ -309,10 +267,10 @@ module _ (base : Base) (N : Names) (means : Means base.defs N) (stops : List (Li
       → Ends loop out (scoped (length r.env) (one_of (truth v) (body (dot_value c v d)) (other d) (with_bound h.binding (without_key v) (record r { made_text = made }))))
   choice-ends w c h k loop f g body other sh out is holds in_f in_g never m d r fits v made value has =
       option_and_then_some _ (f (in_body base c h k sh)) out is (λ a isa rest.
-      option_and_then_some (end_parts base w k.env a) (g (in_other base h k sh)) out rest (λ b isb joint.
+      option_and_then_some (end_parts base w k.env a) (g (in_part base false h k sh)) out rest (λ b isb joint.
       let p = ends-of w k.env a b out joint in by (truth v) refl a isa b isb p.0 p.1))
     where
-      by : (t : Bool) → truth v ≡ t → (a : After) → f (in_body base c h k sh) ≡ Some a → (b : After) → g (in_other base h k sh) ≡ Some b
+      by : (t : Bool) → truth v ≡ t → (a : After) → f (in_body base c h k sh) ≡ Some a → (b : After) → g (in_part base false h k sh) ≡ Some b
           → after_parts base w k.env a.env b.env ≡ Some out.env → join_left base a.left b.left ≡ Some out.left
           → Ends loop out (scoped (length r.env) (one_of t (body (dot_value c v d)) (other d) (with_bound h.binding (without_key v) (record r { made_text = made }))))
       by true t a isa b isb joint left =
@@ -322,11 +280,11 @@ module _ (base : Base) (N : Names) (means : Means base.defs N) (stops : List (Li
           let o = pipeline_origin k h.pipeline in
           let from = (pipeline-has base N means top) m h.pipeline k d r.env v fits value in
           let x = body (dot_value c v d) q in
-          scope-ends loop k.env a out r.env fits.1 holds x.1 x.0.env (left-first loop a.left b.left out.left left)
-          (body-known w k.env a.env b.env out.env joint body other never (dot_value c v d) q)
+          scope-ends loop k.env a out r.env fits.1 holds x.1 x.0.env (λ e y. left-joined loop a.left b.left out.left left e (inl y))
+          (λ is e y. parts-known w k.env a.env b.env out.env joint e (inl (λ same. subst (λ (u : FallThrough). NeverPast u body other) same never (dot_value c v d) q is, y)))
           (in_f (in_body base c h k sh) a isa (dot_value c v d) q (
             dot-has c (fill base sh) (narrow base true h.pipeline k).dot v d full n.0,
-            (bound-known base N means top) h.binding nothings (fill base sh) None o (without_key v) tt full tt from (narrow base true h.pipeline k).env r.env n.1,
+            (value-known base N means top) h.binding (fill base sh) o v full from (narrow base true h.pipeline k).env r.env n.1,
             dot-from c o (narrow base true h.pipeline k).from v d from n.2,
           ))
       by false t a isa b isb joint left =
@@ -335,10 +293,9 @@ module _ (base : Base) (N : Names) (means : Means base.defs N) (stops : List (Li
           let o = pipeline_origin k h.pipeline in
           let from = (pipeline-has base N means top) m h.pipeline k d r.env v fits value in
           let x = other d q in
-          scope-ends loop k.env b out r.env fits.1 holds x.1 x.0.env (left-second loop a.left b.left out.left left)
-          (other-known w k.env a.env b.env out.env joint body other never d q)
-          (in_g (in_other base h k sh) b isb d q
-          (n.0, (bound-known base N means top) h.binding nothings sh None o (without_key v) tt has tt from (narrow base false h.pipeline k).env r.env n.1, n.2))
+          scope-ends loop k.env b out r.env fits.1 holds x.1 x.0.env (λ e y. left-joined loop a.left b.left out.left left e (inr y))
+          (λ is e y. parts-known w k.env a.env b.env out.env joint e (inr (λ same. subst (λ (u : FallThrough). NeverPast u body other) same never d q is, y)))
+          (in_g (in_part base false h k sh) b isb d q (n.0, (value-known base N means top) h.binding sh o v has from (narrow base false h.pipeline k).env r.env n.1, n.2))
 
   -- ---- ranges
 
@@ -359,7 +316,7 @@ module _ (base : Base) (N : Names) (means : Means base.defs N) (stops : List (Li
       by end is false w rest found =
           option_and_then_some (settle_known base n turn) (join_all base ks end) head rest (λ more joint is_found.
           let p = found more head is_found in
-          (λ env h. p.0 env ((joined-left base N means top) ks end more env joint h), p.1, p.2, p.3))
+          (λ env h. p.0 env ((joined-has base N means top) ks end more env joint (inl h)), p.1, p.2, p.3))
 
   soon-so : (turn : Known → Option Known) (ks head : Known) → settle_soon base turn ks ≡ Some head → IsHead turn ks head
   unfolding settle_soon
@@ -371,14 +328,11 @@ module _ (base : Base) (N : Names) (means : Means base.defs N) (stops : List (Li
   TurnEnds head _ env = (HasKnown base N means top) head env
 
   -- the variables after a turn are those where it ends, and where it is left
-  ended : (ks : Known) (left : Option Known) (all : Known) → with_left base ks left ≡ Some all → (env : Environment) → (HasKnown base N means top) ks env → (HasKnown base N means top) all env
-  ended ks None all e env h = let same : ks ≡ all = cc in subst (λ (x : Known). (HasKnown base N means top) x env) same h
-  ended ks (Some ls) all e env h = (joined-left base N means top) ks ls all env e h
-
-  left-so : (head ks : Known) (left : Option Known) (all : Known) → with_left base ks left ≡ Some all → (env : Environment) → InLoop (Some head) left env
-      → (HasKnown base N means top) all (last_of (length head) env)
-  left-so head ks None all e env h = absurd h
-  left-so head ks (Some ls) all e env h = (joined-right base N means top) ks ls all (last_of (length head) env) e h
+  ended : (head ks : Known) (left : Option Known) (all : Known) → with_left base ks left ≡ Some all → (env : Environment)
+      → (HasKnown base N means top) ks (last_of (length head) env) ⊎ InLoop (Some head) left env → (HasKnown base N means top) all (last_of (length head) env)
+  ended head ks None all e env (inl x) = let same : ks ≡ all = cc in subst (λ (y : Known). (HasKnown base N means top) y (last_of (length head) env)) same x
+  ended head ks None all e env (inr x) = absurd x
+  ended head ks (Some ls) all e env h = (joined-has base N means top) ks ls all (last_of (length head) env) e h
 
   turn-end : (head : Known) (inner : After) (all : Known) (env0 : Environment) → (HasKnown base N means top) head env0
       → with_left base (last_of (length head) inner.env) inner.left ≡ Some all → all_within base all head ≡ true → (end : End) (env : Environment)
@@ -392,10 +346,9 @@ module _ (base : Base) (N : Names) (means : Means base.defs N) (stops : List (Li
 
       by : (end : End) → EndsSo (Some head) inner end env → TurnEnds head end (last_of (length env0) env)
       by done e =
-          here (ended (last_of (length head) inner.env) inner.left all is (last_of (length head) env) ((last-known base N means top) (length head) inner.env env e))
+          here (ended head (last_of (length head) inner.env) inner.left all is env (inl ((last-known base N means top) (length head) inner.env env e)))
       by (faulted f) e = e
-      by broke e = here (left-so head (last_of (length head) inner.env) inner.left all is env e)
-      by continued e = here (left-so head (last_of (length head) inner.env) inner.left all is env e)
+      by _ e = here (ended head (last_of (length head) inner.env) inner.left all is env (inr e))
 
   -- what a turn visits: an element of these shapes, and an index or a key of what is at this chain
   abbrev IsTurned : Visit → Origin → Element → Type 0
@@ -462,19 +415,6 @@ module _ (base : Base) (N : Names) (means : Means base.defs N) (stops : List (Li
           each (e ∷ es) h = (key-tied top over v e.0 from (key-there v e.0 h.0) h.0, each es h.1)
 
   -- a range over elements, in its scope
-  past-turns : (w : FallThrough) (rs a b out : Known) → after_parts base w rs a b ≡ Some out → (body other : Value → Next) → NeverPastIn control.Range w body other
-      → (env : Environment) → (HasKnown base N means top) (last_of (length rs) a) env → (HasKnown base N means top) out env
-  past-turns Both rs a b out joint body other never = ((both-known base N means top) rs a b out joint).0
-  past-turns Body rs a b out joint body other never =
-      λ env h. let same : last_of (length rs) a ≡ out = cc in subst (λ (x : Known). (HasKnown base N means top) x env) same h
-  past-turns Other rs a b out joint body other never = absurd never
-
-  past-other : (w : FallThrough) (rs a b out : Known) → after_parts base w rs a b ≡ Some out → (body other : Value → Next) → NeverPastIn control.Range w body other
-      → (d : Value) (r : Run) → (other d r).1 ≡ done → (env : Environment) → (HasKnown base N means top) (last_of (length rs) b) env → (HasKnown base N means top) out env
-  past-other Both rs a b out joint body other never d r is = ((both-known base N means top) rs a b out joint).1
-  past-other Body rs a b out joint body other never d r is = absurd (never d r is)
-  past-other Other rs a b out joint body other never d r is = absurd never
-
   over-ends : (w : FallThrough) (s : Setting) (line : ℕ) (h : Header) (k : State) (loop : Option Known) (f : Option Known → Checked) (g : Checked) (body other : Value → Next) (v : Visit)
       (out : After) → after_range base w h k f g v ≡ Some out → holds_loop loop k.env ≡ true → ((l : Option Known) → PartHas l (f l) body) → PartHas loop g other
       → NeverPastIn control.Range w body other → (d : Value) (r : Run) → (Fits base N means top) k d r.env → (made : Bool) (o : Option (List Element)) → (Visits base N means) (Some v) o → AreTied (pipeline_origin k h.pipeline) o → Begins h k r.env o
@@ -483,7 +423,9 @@ module _ (base : Base) (N : Names) (means : Means base.defs N) (stops : List (Li
       option_and_then_some _ (settle_soon base (turn_known base h v (pipeline_origin k h.pipeline) f) (at_head base h k)) out is (λ head ish rest.
       option_and_then_some (end_parts base w k.env (past head)) (g k) out rest (λ b isb joint.
       let p = ends-of w k.env (past head) b out joint in
-      by o visits ties begins head b isb (past-turns w k.env head b.env out.env p.0 body other never) (past-other w k.env head b.env out.env p.0 body other never) p.1
+      by o visits ties begins head b isb
+      (λ e y. parts-known w k.env head b.env out.env p.0 e (inl (λ same. subst (λ (u : FallThrough). NeverPastIn control.Range u body other) same never, y)))
+      (λ d r is e y. parts-known w k.env head b.env out.env p.0 e (inr (λ same. subst (λ (u : FallThrough). NeverPastIn control.Range u body other) same never d r is, y))) p.1
       (soon-so (turn_known base h v (pipeline_origin k h.pipeline) f) (at_head base h k) head ish)))
     where
       r1 : Run
@@ -510,11 +452,11 @@ module _ (base : Base) (N : Names) (means : Means base.defs N) (stops : List (Li
       by None visits ties begins head b isb gone passed left set = absurd visits
       by (Some []) visits ties begins head b isb gone passed left set =
           let x = other d r1 in
-          scope-ends loop k.env b out r.env fits.1 holds x.1 x.0.env (left-second loop None b.left out.left left) (passed d r1) (in_g k b isb d r1 fits)
+          scope-ends loop k.env b out r.env fits.1 holds x.1 x.0.env (λ e y. left-joined loop None b.left out.left left e (inr y)) (passed d r1) (in_g k b isb d r1 fits)
       by (Some (e ∷ es)) visits ties begins head b isb gone passed left set =
           let x = turns s line h.binding body (e ∷ es) r1 in
           option_and_then_some (λ (a : After). with_left base (last_of (length head) a.env) a.left) (f (Some head) (in_turn h v from head)) set.1 set.2 (λ inner isi is_all.
-          scope-ends loop k.env (past head) out r.env fits.1 holds x.1 x.0.env (left-first loop None b.left out.left left) (λ e. gone)
+          scope-ends loop k.env (past head) out r.env fits.1 holds x.1 x.0.env (λ e y. left-joined loop None b.left out.left left e (inl y)) (λ e. gone)
           (turning head inner set.1 isi is_all set.3 (e ∷ es) (turned v from (e ∷ es) visits ties) (set.0 r.env begins)))
 
   -- a control in its scope
@@ -548,15 +490,13 @@ module _ (base : Base) (N : Names) (means : Means base.defs N) (stops : List (Li
   -- ---- nodes
 
   module _ (s : Setting) (table : Table) (calls : (CallsHave base N means stops) table s.calls) where
-    shown-ends : (h : Header) (k : State) (loop : Option Known) (sh : Shape) (o : Origin) (v : Value) (r : Run) → (HasKnown base N means top) k.env r.env → HasShape N sh v
-        → HasOrigin top o v → Ends loop (past (bound_shapes h.binding nothings sh None o k.env)) (show h.binding v r)
-    shown-ends h k loop sh o v r known has from = by h.binding
+    shown-ends : (h : Header) (k : State) (loop : Option Known) (sh : Shape) (v : Value) (r : Run) → (HasKnown base N means top) k.env r.env → HasShape N sh v
+        → HasOrigin top (pipeline_origin k h.pipeline) v → Ends loop (past (bind_value h k sh k.env)) (show h.binding v r)
+    shown-ends h k loop sh v r known has from = by h.binding
       where
-        by : (b : Binding) → Ends loop (past (bound_shapes b nothings sh None o k.env)) (show b v r)
+        by : (b : Binding) → Ends loop (past (bound_shapes b nothings sh None (pipeline_origin k h.pipeline) k.env)) (show b v r)
         by unbound = known
-        by (declare name) = (bound-known base N means top) (declare name) nothings sh None o (without_key v) tt has tt from k.env r.env known
-        by (assign name) = (bound-known base N means top) (assign name) nothings sh None o (without_key v) tt has tt from k.env r.env known
-        by (declare_pair key name) = (bound-known base N means top) (declare_pair key name) nothings sh None o (without_key v) tt has tt from k.env r.env known
+        by b = (value-known base N means top) b sh (pipeline_origin k h.pipeline) v has from k.env r.env known
 
     left-ends : (loop : Option Known) (ks : Known) (out : After) (env : Environment) → leave_with ks loop ≡ Some out → (HasKnown base N means top) ks env → InLoop loop out.left env
     left-ends None ks out env e k = cc
@@ -621,12 +561,8 @@ module _ (base : Base) (N : Names) (means : Means base.defs N) (stops : List (Li
         by (Some c) t e = fault-past (s.calls name) c (calls name c t) e line go r is
 
     node-past : (n : NodeKind) → diverges table n ≡ true → (line : ℕ) (d : Value) (r : Run) → (stepped s line n d r).1 ≡ done → ⊥
-    node-past break_node e line d r is = cc
-    node-past continue_node e line d r is = cc
     node-past (template_node name given) e line d r is = absent-past name e line (handing s line given d) r is
-    node-past (text bytes) e line d r is = cc
-    node-past (action h) e line d r is = cc
-    node-past (control_node c h body other) e line d r is = cc
+    node-past _ e line d r is = cc
 
     -- what follows from the end of a node follows from that of its step
     spend-past : (T : Type 0) (line : ℕ) (go : Next) (r : Run) → ((left : ℕ) → (go (record r { left = left })).1 ≡ done → T) → (spend s line go r).1 ≡ done → T
@@ -638,9 +574,7 @@ module _ (base : Base) (N : Names) (means : Means base.defs N) (stops : List (Li
 
     end-past : (end : End) (q : Run) (go : Next) → (on_end end q go).1 ≡ done → (end ≡ done) × ((go q).1 ≡ done)
     end-past done q go e = (refl, e)
-    end-past (faulted f) q go e = cc
-    end-past broke q go e = cc
-    end-past continued q go e = cc
+    end-past _ q go e = cc
 
     some-past : (ns : Nodes) → any_diverges table ns ≡ true → (d : Value) (r : Run) → (meanings s ns d r).1 ≡ done → ⊥
     some-past tree.none e d r is = cc
@@ -664,13 +598,12 @@ module _ (base : Base) (N : Names) (means : Means base.defs N) (stops : List (Li
         by false e false f = tt
 
     never-past-in : (c : Control) (body other : Nodes) → NeverPastIn c (past_parts c table body other) (meanings s body) (meanings s other)
-    never-past-in control.If body other = never-past body other
-    never-past-in control.With body other = never-past body other
     never-past-in control.Range body other = by (any_diverges table other) refl
       where
         by : (b : Bool) → any_diverges table other ≡ b → NeverPastIn control.Range (if b then Body else Both) (meanings s body) (meanings s other)
         by true e = λ d r. some-past other e d r
         by false e = tt
+    never-past-in _ body other = never-past body other
 
     -- where a range is done past which a run comes only by its body, dot is what its pipeline shows
     range-dot : (w : FallThrough) (h : Header) (line : ℕ) (k : State) (body other : Value → Next) → NeverPastIn control.Range w body other
@@ -710,11 +643,6 @@ module _ (base : Base) (N : Names) (means : Means base.defs N) (stops : List (Li
     -- .. and after each node
     step-dot : (n : NodeKind) (line : ℕ) (loop : Option Known) (k : State) (out : After) → after_node base s.rules.missing_key table loop k n ≡ Some out
         → (d : Value) (r : Run) → (Fits base N means top) k d r.env → (stepped s line n d r).1 ≡ done → HasShape N (dot_after base table k n) d
-    step-dot (text bytes) line loop k out e d r fits is = fits.0
-    step-dot (action h) line loop k out e d r fits is = fits.0
-    step-dot break_node line loop k out e d r fits is = fits.0
-    step-dot continue_node line loop k out e d r fits is = fits.0
-    step-dot (template_node name given) line loop k out e d r fits is = fits.0
     step-dot (control_node c h body other) line loop k out e d r fits is =
         let p = was_open (holds_loop loop k.env) _ out e in
         option_and_then_some _ (pipeline_shape base s.rules.missing_key k h.pipeline) out p.1 (λ sh issh rest.
@@ -732,6 +660,7 @@ module _ (base : Base) (N : Names) (means : Means base.defs N) (stops : List (Li
             choice-dot (fall_through table body other) control.If h k (meanings s body) (meanings s other) (never-past body other) d r fits v made value is
         by control.With v made value is =
             choice-dot (fall_through table body other) control.With h k (meanings s body) (meanings s other) (never-past body other) d r fits v made value is
+    step-dot _ line loop k out e d r fits is = fits.0
 
     left-kept : (ns : Nodes) (loop left : Option Known) (k : State) (out : After) → after_nodes base s.rules.missing_key table loop left k ns ≡ Some out
         → (env : Environment) → InLoop loop left env → InLoop loop out.left env
@@ -740,18 +669,17 @@ module _ (base : Base) (N : Names) (means : Means base.defs N) (stops : List (Li
     left-kept (tree.then line n ns) loop left k out is env h =
         option_and_then_some _ (after_node base s.rules.missing_key table loop k n) out is (λ middle ism rest.
         option_and_then_some _ (join_left base left middle.left) out rest (λ all isa more.
-        left-kept ns loop all (record k { dot = dot_after base table k n; env = middle.env }) out more env (left-first loop left middle.left all isa env h)))
+        left-kept ns loop all (record k { dot = dot_after base table k n; env = middle.env }) out more env (left-joined loop left middle.left all isa env (inl h))))
 
     mutual
       stepped-ends : (n : NodeKind) (line : ℕ) (loop : Option Known) → PartHas loop (λ k. after_node base s.rules.missing_key table loop k n) (stepped s line n)
       stepped-ends (text bytes) line loop k out is d r fits =
           let same : past k.env ≡ out = cc in subst (λ (x : After). (HasKnown base N means top) x.env r.env) same fits.1
       stepped-ends (action h) line loop k out is d r fits =
-          let o = pipeline_origin k h.pipeline in
-          let p = mapped_some (pipeline_shape base s.rules.missing_key k h.pipeline) (λ sh. past (bound_shapes h.binding nothings sh None o k.env)) out is in
+          let p = mapped_some (pipeline_shape base s.rules.missing_key k h.pipeline) (λ sh. past (bind_value h k sh k.env)) out is in
           subst (λ (x : After). Ends loop x (with_pipeline s line h.pipeline d (show h.binding) r)) p.2
-          (pipeline-all (Ends loop (past (bound_shapes h.binding nothings p.0 None o k.env))) s line h.pipeline d (show h.binding) k p.0 r fits p.1
-          (λ v made value has. shown-ends h k loop p.0 o v (record r { made_text = made }) fits.1 has
+          (pipeline-all (Ends loop (past (bind_value h k p.0 k.env))) s line h.pipeline d (show h.binding) k p.0 r fits p.1
+          (λ v made value has. shown-ends h k loop p.0 v (record r { made_text = made }) fits.1 has
           ((pipeline-has base N means top) s.rules.missing_key h.pipeline k d r.env v fits value)))
       stepped-ends (control_node c h body other) line loop k out is d r fits =
           let m = s.rules.missing_key in
@@ -764,9 +692,8 @@ module _ (base : Base) (N : Names) (means : Means base.defs N) (stops : List (Li
           (controlled s line c h.binding d (meanings s body) (meanings s other d)) k sh r fits issh
           (control-ends w s line c h k loop f g (meanings s body) (meanings s other) sh out rest p.0 (λ l. nodes-end body l None) (nodes-end other loop None)
           (never-past-in c body other) d r fits))
-      stepped-ends break_node line loop k out is d r fits = left-ends loop k.env out r.env is fits.1
-      stepped-ends continue_node line loop k out is d r fits = left-ends loop k.env out r.env is fits.1
       stepped-ends (template_node name given) line loop k out is d r fits = template-ends line name given loop k out is d r fits
+      stepped-ends _ line loop k out is d r fits = left-ends loop k.env out r.env is fits.1
 
       pub nodes-end : (ns : Nodes) (loop left : Option Known) → PartHas loop (λ k. after_nodes base s.rules.missing_key table loop left k ns) (meanings s ns)
       nodes-end tree.none loop left k out is d r fits =
@@ -779,7 +706,7 @@ module _ (base : Base) (N : Names) (means : Means base.defs N) (stops : List (Li
           let dot : x.1 ≡ done → HasShape N (dot_after base table k n) d =
           spend-past (HasShape N (dot_after base table k n) d) line (stepped s line n d) r (λ left. step-dot n line loop k middle ism d (record r { left = left }) fits) in
           after-ends loop middle out (meanings s ns d) x.0 x.1
-          (λ h. left-kept ns loop all u out more x.0.env (left-second loop left middle.left all isa x.0.env h))
+          (λ h. left-kept ns loop all u out more x.0.env (left-joined loop left middle.left all isa x.0.env (inr h)))
           (λ is known. nodes-end ns loop all u out more d x.0 (dot is, known, fits.2))
           (spend-ends loop middle s line (stepped s line n d) r (λ left. stepped-ends n line loop k middle ism d (record r { left = left }) fits))))
 
@@ -854,7 +781,6 @@ module _ (base : Base) (N : Names) (means : Means base.defs N) (stops : List (Li
                     may (steps_spent n) e = tt
                     may (no_template name) e = stop-is c constants is e.1 name e.4
                     may _ e = absurd e
-                ends-quiet c constants bytes is t q broke e = absurd e
-                ends-quiet c constants bytes is t q continued e = absurd e
+                ends-quiet c constants bytes is t q _ e = absurd e
         by absent x inner =
             subst (λ (o : Option Tree). (CalleeHas base N means stops) absent (run_called rules (calls_within rules set depth) name o)) (sym x.0) x.1

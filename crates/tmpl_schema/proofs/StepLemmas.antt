@@ -16,6 +16,4 @@ pub soon-settle_known : (base : Base) (turn : Known → Option Known) (ks : Know
 unfolding settle_soon
 soon-settle_known base turn ks = refl
 
-pub ruleset soon = (soon-settle_known)
-
 pub ruleset rounds = (settle_known-next)

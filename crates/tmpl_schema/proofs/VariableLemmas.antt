@@ -1,7 +1,7 @@
 -- For the law `runs_safely`: the variables of a run have the shapes that are computed, and so have pipelines.
 use Rattle.std.proofs.Common.{arith, ◌≡◌, ◌∙◌, ◌+◌, ◌-◌, ◌≤◌, ◌<◌, ◌&&◌, ◌||◌, pos, nat_lt, ◌==◌, ◌++◌, ◌⊎◌, inl, inr, not, option_to_list, unwrap_or, ℕ, zero, suc, Bool, true, false, List, [], ◌∷◌, Option, Some, None, Result, Ok, Err, length, drop, map, ap, refl, sym, subst, ok_or, if◌then◌else◌}
 use Rattle.std.proofs.lemmas.List.{append-nil, drop-drop, length-drop}
-use Rattle.std.proofs.lemmas.Bool.{false≢true, and_parts, eqb-true, ltb-true, ltb-false}
+use Rattle.std.proofs.lemmas.Bool.{false≢true, and_parts, or_right, eqb-true, ltb-true, ltb-false}
 use Rattle.std.proofs.lemmas.Bool.Decides.{Decides-eqb, Decides-int_eq}
 use Rattle.std.specs.Ordering.{int_eq}
 use Rattle.std.specs.Option.{option_map, option_map_or, option_and_then}
@@ -38,15 +38,15 @@ use Rattle.tmpl_schema.specs.computed.Check.{Fact, call_counts, call_fact, comma
 use Rattle.tmpl_schema.specs.computed.Check.{operand_counts, are_constants, is_nil_alone, equal_test, constant_test, pair_fact, compare_fact, turned_fact, piped_fact, tells, narrow_all, narrow_as, narrow_by, narrow_command, narrow_operand, narrow_to}
 use Rattle.tmpl_schema.specs.computed.Check.{are_texts, bounds_of, sliced_shape, call_place, chain_place, index_place, texts_in, deciding_shape, passing_shape, passed, operand_shapes, junction_shape, commands_shape}
 use Rattle.tmpl_schema.specs.computed.Check as check
-use Rattle.tmpl_schema.specs.computed.Check.{Origin, Tie, is_path, key_tie, narrow_from, narrow_root, operand_origin, owner_of, own_entry, path_of, tie_of, tie_within, pipeline_origin, pipeline_place, place_of, place_origin, refine_all, refine_along, refine_from, rest_of, root_origin, variable_origin, variable_owner}
-use Rattle.tmpl_schema.proofs.OriginLemmas.{HasOrigin, HasTie, IsAt, IsKeyOf, at-chain, at-gone, at-joined, at-rest, at-root, is-key, owner-has, path-has, path-same, rest_of-is, tie_within-has, tied, ties-left, ties-right}
-use Rattle.tmpl_schema.specs.computed.Check.{Known, State, variable_shape, assigned_shape, bound_shapes, refine_variable, all_within, is_split, join_all, join_ties, join_parts, join_to, last_of}
+use Rattle.tmpl_schema.specs.computed.Check.{Origin, Tie, keyed, key_tie, narrow_from, narrow_root, operand_origin, own_entry, path_of, tie_of, tie_within, pipeline_origin, pipeline_place, place_of, place_origin, refine_all, refine_from, rest_of, root_origin}
+use Rattle.tmpl_schema.proofs.OriginLemmas.{HasOrigin, HasTie, IsAt, IsKeyOf, at-chain, at-gone, at-joined, at-rest, at-root, path-has, rest_of-is, tie_within-has, tied, ties-has}
+use Rattle.tmpl_schema.specs.computed.Check.{Known, State, Variable, find_variable, assigned_shape, bound_shapes, refine_variable, all_within, is_split, join_all, join_ties, join_parts, join_to, last_of}
 use Rattle.tmpl_schema.specs.computed.Check.{absent_field, after_both, entry_along, entry_by, operand_shape, indexed_shape, printed_shape, command_shape, pipeline_shape, narrow}
 use Rattle.tmpl_shape.proofs.KindLemmas.{has_kind-has}
-use Rattle.tmpl_shape.proofs.ShapeLemmas.{bytes-turned, same_name, within-has, join-left, join-right}
+use Rattle.tmpl_shape.proofs.ShapeLemmas.{bytes-turned, same_name, within-has}
 use Rattle.tmpl_schema.proofs.NullLemmas.{null_gone-has}
 use Rattle.tmpl_schema.proofs.FormatLemmas.{printf-gives}
-use Rattle.tmpl_schema.proofs.FieldLemmas.{Each, Ends, Gives, IsVisit, Passes, Shows, Visits, any-has, at-entry, both-left, both-right, entry-gives, chain-gives, fill-has, full-thing, only-there, refine-has, visit-gives}
+use Rattle.tmpl_schema.proofs.FieldLemmas.{Each, Ends, Gives, IsVisit, Passes, Shows, Visits, any-has, at-entry, both-give, join-has, entry-gives, chain-gives, fill-has, full-thing, only-there, refine-has, visit-gives}
 use Rattle.tmpl_schema.proofs.PartLemmas.{item-at, part-gives, part_told}
 use Rattle.tmpl_schema.proofs.CallLemmas.{HaveShapes, call-gives}
 use Rattle.tmpl_funcs.specs.Func.{takes}
@@ -58,10 +58,6 @@ use Rattle.tmpl_meaning.proofs.PartLemmas.{by_count, decided}
 -- ---- numbers of items
 
 -- a value has as many items, and so it is there
-or_true : (b : Bool) → (b || true) ≡ true
-or_true true = refl
-or_true false = refl
-
 pub above-zero : (n : ℕ) → not (suc n == 0) ≡ true
 above-zero n = by (suc n == 0) refl
   where
@@ -75,16 +71,13 @@ none-below n h = omega arith
 full-string : (s : List ℕ) (i l : ℕ) → size_of (string s) ≡ Some i → l ≤ i → lets_value (has_least l) (string s) ≡ true
 full-string s i zero e h = refl
 full-string [] i (suc l) e h = let same : 0 ≡ i = cc in absurd (none-below l (subst (λ n. suc l ≤ n) (sym same) h))
-full-string (x ∷ xs) i (suc l) e h = rw (above-zero (length xs)) (or_true (suc l == 0))
+full-string (x ∷ xs) i (suc l) e h = rw (above-zero (length xs)) (or_right (suc l == 0) true refl)
 
 sized-there : (u : Value) (i l : ℕ) → size_of u ≡ Some i → l ≤ i → Shows (has_least l) u
-sized-there nothing i l e h = cc
-sized-there null i l e h = cc
-sized-there (boolean b) i l e h = cc
-sized-there (number n) i l e h = cc
 sized-there (string s) i l e h = (λ x. refl, full-string s i l e h)
 sized-there (mapping es) i l e h = (λ x. refl, tt)
 sized-there (sequence vs) i l e h = let same : length (values_of_items vs) ≡ i = cc in (λ x. refl, omega arith)
+sized-there _ i l e h = cc
 
 full-number : (i : ℕ) → truth (number (pos i)) ≡ true → 1 ≤ i
 full-number zero t = absurd (false≢true t)
@@ -94,22 +87,17 @@ abbrev compare_told : Func → Option Bool → Result Value Cause
 compare_told f o = result_map_both (λ v. v) (call_failed f) (comparison_answer o)
 
 equality-turned : (s : List ℕ) (w : Value) → equality (string s) w ≡ equality w (string s)
-equality-turned s nothing = refl
-equality-turned s null = refl
-equality-turned s (boolean b) = refl
-equality-turned s (number n) = refl
 equality-turned s (string t) = ap Some (bytes-turned s t)
-equality-turned s (sequence vs) = refl
-equality-turned s (mapping es) = refl
+equality-turned s _ = refl
 
 told-truth : (f : Func) (o : Option Bool) (v : Value) (b : Bool) → compare_told f o ≡ Ok v → truth v ≡ b → o ≡ Some b
 told-truth f None v b e t = cc
 told-truth f (Some c) v b e t = let same : boolean c ≡ v = cc in ap Some (ap truth same ∙ t)
 
-one-equal : (o : Option Bool) (b : Bool) → option_and_then (λ equal. if equal then Some true else Some false) o ≡ Some b → o ≡ Some b
-one-equal None b e = cc
-one-equal (Some true) b e = e
-one-equal (Some false) b e = e
+one-equal : (o : Option Bool) → option_and_then (λ equal. if equal then Some true else Some false) o ≡ o
+one-equal None = refl
+one-equal (Some true) = refl
+one-equal (Some false) = refl
 
 opposite-of : (o : Option Bool) (b : Bool) → option_map not o ≡ Some b → o ≡ Some (not b)
 opposite-of None b e = cc
@@ -124,7 +112,7 @@ abbrev compared : Func → Value → Value → Result Value Cause
 compared f v w = (apply_function f (v ∷ w ∷ [])).result
 
 eq-told : (u w v : Value) (c : Bool) → compared func.Eq u w ≡ Ok v → truth v ≡ c → equality u w ≡ Some c
-eq-told u w v c e t = one-equal (equality u w) c (told-truth func.Eq (equal_to_one u (w ∷ [])) v c e t)
+eq-told u w v c e t = sym (one-equal (equality u w)) ∙ told-truth func.Eq (equal_to_one u (w ∷ [])) v c e t
 
 ne-told : (u w v : Value) (c : Bool) → compared func.Ne u w ≡ Ok v → truth v ≡ c → equality u w ≡ Some (not c)
 ne-told u w v c e t = opposite-of (equality u w) c (told-truth func.Ne (option_map not (equality u w)) v c e t)
@@ -262,54 +250,23 @@ module _ (base : Base) (N : Names) (means : Means base.defs N) (top : Value) whe
   within-known (a ∷ more) (b ∷ bs) [] e h = absurd h
   within-known _ _ env e h = absurd (false≢true e)
 
-  -- what the joined variables begin with
-  abbrev joined : List ℕ × Shape × Tie → List ℕ × Shape × Tie → List ℕ × Shape × Tie
-  joined k l = (k.0, join base k.1 l.1, join_ties k.2 l.2)
-
-  was_joined : (k l : List ℕ × Shape × Tie) (c : Known) (b : Bool) (o : Option Known) → bytes_eq k.0 l.0 ≡ b
-      → (if b then option_map (λ js. joined k l ∷ js) o else None) ≡ Some c
-      → (js : Known) × (bytes_eq k.0 l.0 ≡ true) × (o ≡ Some js) × ((joined k l ∷ js) ≡ c)
-  was_joined k l c true (Some js) is e = let same : (joined k l ∷ js) ≡ c = cc in (js, is, refl, same)
-  was_joined k l c true None is e = cc
-  was_joined k l c false o is e = cc
+  was_joined : (b : Bool) (j : Variable) (o : Option Known) (c : Known) → (if b then option_map (λ js. j ∷ js) o else None) ≡ Some c
+      → (js : Known) × (b ≡ true) × (o ≡ Some js) × ((j ∷ js) ≡ c)
+  was_joined true j (Some js) c e = (js, refl, refl, cc)
+  was_joined true j None c e = cc
+  was_joined false j o c e = cc
 
   -- what is known of one of two is known of both
-  pub joined-left : (a b c : Known) (env : Environment) → join_all base a b ≡ Some c → HasKnown a env → HasKnown c env
-  joined-left [] [] c env e h = let same : [] ≡ c = cc in subst (λ (y : Known). HasKnown y env) same h
-  joined-left (k ∷ ks) (l ∷ ls) c [] e h = absurd h
-  joined-left (k ∷ ks) (l ∷ ls) c (v ∷ env) e h =
-      let p = was_joined k l c (bytes_eq k.0 l.0) (join_all base ks ls) refl e in
-      subst (λ (y : Known). HasKnown y (v ∷ env)) p.3 (
-        h.0,
-        (join-left base N means) k.1 l.1 v.1 h.1,
-        joined-left ks ls p.0 env p.2 h.2,
-        ties-left top k.2 l.2 v.1 h.3,
-      )
-  joined-left _ _ c env e h = cc
-
-  pub joined-right : (a b c : Known) (env : Environment) → join_all base a b ≡ Some c → HasKnown b env → HasKnown c env
-  joined-right [] [] c env e h = let same : [] ≡ c = cc in subst (λ (y : Known). HasKnown y env) same h
-  joined-right (k ∷ ks) (l ∷ ls) c [] e h = absurd h
-  joined-right (k ∷ ks) (l ∷ ls) c (v ∷ env) e h =
-      let p = was_joined k l c (bytes_eq k.0 l.0) (join_all base ks ls) refl e in
-      subst (λ (y : Known). HasKnown y (v ∷ env)) p.3 (
-        h.0 ∙ sym (same_name k.0 l.0 p.1),
-        (join-right base N means) k.1 l.1 v.1 h.1,
-        joined-right ks ls p.0 env p.2 h.2,
-        ties-right top k.2 l.2 v.1 h.3,
-      )
-  joined-right _ _ c env e h = cc
-
-  -- what the variables after two parts begin with
-  abbrev parted : List ℕ × Shape × Tie → List ℕ × Shape × Tie → List ℕ × Shape × Tie → List ℕ × Shape × Tie
-  parted r k l = (k.0, join_to base r.1 k.1 l.1, join_ties k.2 l.2)
-
-  was_parted : (r k l : List ℕ × Shape × Tie) (c : Known) (b : Bool) (o : Option Known) → bytes_eq k.0 l.0 ≡ b
-      → (if b then option_map (λ js. parted r k l ∷ js) o else None) ≡ Some c
-      → (js : Known) × (bytes_eq k.0 l.0 ≡ true) × (o ≡ Some js) × ((parted r k l ∷ js) ≡ c)
-  was_parted r k l c true (Some js) is e = let same : (parted r k l ∷ js) ≡ c = cc in (js, is, refl, same)
-  was_parted r k l c true None is e = cc
-  was_parted r k l c false o is e = cc
+  pub joined-has : (a b c : Known) (env : Environment) → join_all base a b ≡ Some c → HasKnown a env ⊎ HasKnown b env → HasKnown c env
+  joined-has [] [] c env e h = let same : [] ≡ c = cc in subst (λ (y : Known). HasKnown y env) same (elim h [ inl x ↦ x | inr x ↦ x ])
+  joined-has (k ∷ ks) (l ∷ ls) c [] e h = elim h [ inl x ↦ absurd x | inr x ↦ absurd x ]
+  joined-has (k ∷ ks) (l ∷ ls) c (v ∷ env) e h =
+      let p = was_joined (bytes_eq k.0 l.0) (k.0, join base k.1 l.1, join_ties k.2 l.2) (join_all base ks ls) c e in
+      subst (λ (y : Known). HasKnown y (v ∷ env)) p.3 (elim h [
+        | inl x ↦ (x.0, (join-has base N means) k.1 l.1 v.1 (inl x.1), joined-has ks ls p.0 env p.2 (inl x.2), ties-has top k.2 l.2 v.1 (inl x.3))
+        | inr x ↦ (x.0 ∙ sym (same_name k.0 l.0 p.1), (join-has base N means) k.1 l.1 v.1 (inr x.1), joined-has ks ls p.0 env p.2 (inr x.2), ties-has top k.2 l.2 v.1 (inr x.3))
+      ])
+  joined-has _ _ c env e h = cc
 
   part-has : (r s t : Shape) (v : Value) → HasShape N s v ⊎ HasShape N t v → HasShape N (join_to base r s t) v
   part-has r s t v h = by (is_split base r s t) refl
@@ -322,60 +279,41 @@ module _ (base : Base) (N : Names) (means : Means base.defs N) (top : Value) whe
             | inr x ↦ (within-has base N means) t r v p.1 x
           ]
 
-      joined-has : HasShape N (join base s t) v
-      joined-has = elim h [
-        | inl x ↦ (join-left base N means) s t v x
-        | inr x ↦ (join-right base N means) s t v x
-      ]
-
       by : (b : Bool) → is_split base r s t ≡ b → HasShape N (if b then r else join base s t) v
       by true e = among (and_parts (not (within base s t || within base t s)) (within base s r && within base t r) e).1
-      by false e = joined-has
+      by false e = (join-has base N means) s t v h
 
-  parted-left : (rs a b c : Known) (env : Environment) → join_parts base rs a b ≡ Some c → HasKnown a env → HasKnown c env
-  parted-left [] [] [] c env e h = let same : [] ≡ c = cc in subst (λ (y : Known). HasKnown y env) same h
-  parted-left (r ∷ rs) (k ∷ ks) (l ∷ ls) c [] e h = absurd h
-  parted-left (r ∷ rs) (k ∷ ks) (l ∷ ls) c (v ∷ env) e h =
-      let p = was_parted r k l c (bytes_eq k.0 l.0) (join_parts base rs ks ls) refl e in
-      subst (λ (y : Known). HasKnown y (v ∷ env)) p.3 (
-        h.0,
-        part-has r.1 k.1 l.1 v.1 (inl h.1),
-        parted-left rs ks ls p.0 env p.2 h.2,
-        ties-left top k.2 l.2 v.1 h.3,
-      )
-  parted-left _ _ _ c env e h = cc
-
-  parted-right : (rs a b c : Known) (env : Environment) → join_parts base rs a b ≡ Some c → HasKnown b env → HasKnown c env
-  parted-right [] [] [] c env e h = let same : [] ≡ c = cc in subst (λ (y : Known). HasKnown y env) same h
-  parted-right (r ∷ rs) (k ∷ ks) (l ∷ ls) c [] e h = absurd h
-  parted-right (r ∷ rs) (k ∷ ks) (l ∷ ls) c (v ∷ env) e h =
-      let p = was_parted r k l c (bytes_eq k.0 l.0) (join_parts base rs ks ls) refl e in
-      subst (λ (y : Known). HasKnown y (v ∷ env)) p.3 (
-        h.0 ∙ sym (same_name k.0 l.0 p.1),
-        part-has r.1 k.1 l.1 v.1 (inr h.1),
-        parted-right rs ks ls p.0 env p.2 h.2,
-        ties-right top k.2 l.2 v.1 h.3,
-      )
-  parted-right _ _ _ c env e h = cc
+  parted-has : (rs a b c : Known) (env : Environment) → join_parts base rs a b ≡ Some c → HasKnown a env ⊎ HasKnown b env → HasKnown c env
+  parted-has [] [] [] c env e h = let same : [] ≡ c = cc in subst (λ (y : Known). HasKnown y env) same (elim h [ inl x ↦ x | inr x ↦ x ])
+  parted-has (r ∷ rs) (k ∷ ks) (l ∷ ls) c [] e h = elim h [ inl x ↦ absurd x | inr x ↦ absurd x ]
+  parted-has (r ∷ rs) (k ∷ ks) (l ∷ ls) c (v ∷ env) e h =
+      let p = was_joined (bytes_eq k.0 l.0) (k.0, join_to base r.1 k.1 l.1, join_ties k.2 l.2) (join_parts base rs ks ls) c e in
+      subst (λ (y : Known). HasKnown y (v ∷ env)) p.3 (elim h [
+        | inl x ↦ (x.0, part-has r.1 k.1 l.1 v.1 (inl x.1), parted-has rs ks ls p.0 env p.2 (inl x.2), ties-has top k.2 l.2 v.1 (inl x.3))
+        | inr x ↦ (x.0 ∙ sym (same_name k.0 l.0 p.1), part-has r.1 k.1 l.1 v.1 (inr x.1), parted-has rs ks ls p.0 env p.2 (inr x.2), ties-has top k.2 l.2 v.1 (inr x.3))
+      ])
+  parted-has _ _ _ c env e h = cc
 
   -- after two parts the variables that were there before are known
-  pub both-known : (rs a b c : Known) → after_both base rs a b ≡ Some c
-      → ((env : Environment) → HasKnown (last_of (length rs) a) env → HasKnown c env) × ((env : Environment) → HasKnown (last_of (length rs) b) env → HasKnown c env)
-  both-known rs a b c e = (
-    λ env h. parted-left rs (last_of (length rs) a) (last_of (length rs) b) c env e h,
-    λ env h. parted-right rs (last_of (length rs) a) (last_of (length rs) b) c env e h,
-  )
+  pub both-known : (rs a b c : Known) → after_both base rs a b ≡ Some c → (env : Environment)
+      → HasKnown (last_of (length rs) a) env ⊎ HasKnown (last_of (length rs) b) env → HasKnown c env
+  both-known rs a b c e env h = parted-has rs (last_of (length rs) a) (last_of (length rs) b) c env e h
 
   -- ---- variables
 
-  lookup-gives : (name : List ℕ) (ks : Known) (env : Environment) → HasKnown ks env → (Gives base N means) (variable_shape name ks) (Ok (lookup name env))
-  lookup-gives name [] env h = tt
-  lookup-gives name (k ∷ ks) [] h = absurd h
-  lookup-gives name (k ∷ ks) (v ∷ env) h = rw h.0 (by (bytes_eq k.0 name) (lookup-gives name ks env h.2))
+  -- a variable that is found has its value
+  abbrev IsFound : Option Variable → Value → Type 0
+  IsFound None v = Unit {0}
+  IsFound (Some k) v = HasShape N k.1 v × HasTie top k.2 v
+
+  found-has : (name : List ℕ) (ks : Known) (env : Environment) → HasKnown ks env → IsFound (find_variable name ks) (lookup name env)
+  found-has name [] env h = tt
+  found-has name (k ∷ ks) [] h = absurd h
+  found-has name (k ∷ ks) (v ∷ env) h = rw h.0 (by (bytes_eq k.0 name) (found-has name ks env h.2))
     where
-      by : (b : Bool) → (Gives base N means) (variable_shape name ks) (Ok (lookup name env))
-          → (Gives base N means) (if b then Some k.1 else variable_shape name ks) (Ok (option_map_or (λ v. v.1) (if b then Some (k.0, v.1) else find (λ v. bytes_eq v.0 name) env) nothing))
-      by true more = h.1
+      by : (b : Bool) → IsFound (find_variable name ks) (lookup name env)
+          → IsFound (if b then Some k else find_variable name ks) (option_map_or (λ v. v.1) (if b then Some (k.0, v.1) else find (λ v. bytes_eq v.0 name) env) nothing)
+      by true more = (h.1, h.3)
       by false more = more
 
   assigned-known : (name : List ℕ) (s : Shape) (t : Tie) (x : Value) → HasShape N s x → HasTie top t x → (ks : Known) (env : Environment) → HasKnown ks env
@@ -396,27 +334,10 @@ module _ (base : Base) (N : Names) (means : Means base.defs N) (top : Value) whe
   bound-known (assign name) k s over o e f g j i ks env h = assigned-known name s (tie_of o) e.1 g (tied top o e.1 i) ks env h
   bound-known (declare_pair key name) k s over o e f g j i ks env h = (refl, g, (refl, f, h, j), tied top o e.1 i)
 
-  origin-has : (name : List ℕ) (ks : Known) (env : Environment) → HasKnown ks env → HasOrigin top (variable_origin name ks) (lookup name env)
-  origin-has name [] [] h = tt
-  origin-has name [] (v ∷ env) h = absurd h
-  origin-has name (k ∷ ks) [] h = absurd h
-  origin-has name (k ∷ ks) (v ∷ env) h = rw h.0 (by (bytes_eq k.0 name) (origin-has name ks env h.2))
-    where
-      by : (b : Bool) → HasOrigin top (variable_origin name ks) (lookup name env)
-          → HasOrigin top (if b then path_of k.2 else variable_origin name ks) (option_map_or (λ v. v.1) (if b then Some (k.0, v.1) else find (λ v. bytes_eq v.0 name) env) nothing)
-      by true more = path-has top k.2 v.1 h.3
-      by false more = more
-
-  owned : (name : List ℕ) (ks : Known) (env : Environment) → HasKnown ks env → HasTie top (key_tie (variable_owner name ks)) (lookup name env)
-  owned name [] [] h = tt
-  owned name [] (v ∷ env) h = absurd h
-  owned name (k ∷ ks) [] h = absurd h
-  owned name (k ∷ ks) (v ∷ env) h = rw h.0 (by (bytes_eq k.0 name) (owned name ks env h.2))
-    where
-      by : (b : Bool) → HasTie top (key_tie (variable_owner name ks)) (lookup name env)
-          → HasTie top (key_tie (if b then owner_of k.2 else variable_owner name ks)) (option_map_or (λ v. v.1) (if b then Some (k.0, v.1) else find (λ v. bytes_eq v.0 name) env) nothing)
-      by true more = owner-has top k.2 v.1 h.3
-      by false more = more
+  -- .. to a value that is no element
+  pub value-known : (b : Binding) (s : Shape) (o : Origin) (v : Value) → HasShape N s v → HasOrigin top o v → (ks : Known) (env : Environment) → HasKnown ks env
+      → HasKnown (bound_shapes b nothings s None o ks) (bind b (nothing, v) env)
+  value-known b s o v g i ks env h = bound-known b nothings s None o (nothing, v) tt g tt i ks env h
 
   refine-known : (test : Test) (name : List ℕ) (ns : List (List ℕ)) (ks : Known) (env : Environment) → HasKnown ks env
       → Ends test ns (lookup name env) → HasKnown (refine_variable base test name ns ks) env
@@ -446,7 +367,7 @@ module _ (base : Base) (N : Names) (means : Means base.defs N) (top : Value) whe
   along-has test ns t None s y h i = h
   along-has test ns t (Some ps) s y h i = by (rest_of ps ns) refl
     where
-      by : (r : Option (List (List ℕ))) → rest_of ps ns ≡ r → HasShape N (refine_along base test ns s r) y
+      by : (r : Option (List (List ℕ))) → rest_of ps ns ≡ r → HasShape N (option_map_or (λ ms. refine base test ms s) r s) y
       by None is = h
       by (Some ms) is =
           (refine-has base N means) test s ms y h (rest-ends test ps ms y i (subst (λ (qs : List (List ℕ)). Ends test qs top) (rest_of-is ps ns ms is) t))
@@ -459,9 +380,9 @@ module _ (base : Base) (N : Names) (means : Means base.defs N) (top : Value) whe
   -- ---- pipelines
 
   found-gives : (f : Shape → Option Shape) (g : Value → Result Value Cause) → ((s : Shape) (v : Value) → HasShape N s v → (Gives base N means) (f s) (g v))
-      → (o : Option Shape) (v : Value) → (Gives base N means) o (Ok v) → (Gives base N means) (option_and_then f o) (g v)
-  found-gives f g h None v k = tt
-  found-gives f g h (Some s) v k = h s v k
+      → (o : Option Variable) (v : Value) → IsFound o v → (Gives base N means) (option_and_then (λ k. f k.1) o) (g v)
+  found-gives f g h None v i = tt
+  found-gives f g h (Some k) v i = h k.1 v i.0
 
   go-gives : (f : Shape → Option Shape) (g : Value → Given Value) (o : Option Shape) (r : Result Value Cause) (b : Bool) → (Gives base N means) o r
       → ((s : Shape) (v : Value) → r ≡ Ok v → HasShape N s v → (Gives base N means) (f s) (g v).result) → (Gives base N means) (option_and_then f o) (go_on r b g).result
@@ -547,9 +468,9 @@ module _ (base : Base) (N : Names) (means : Means base.defs N) (top : Value) whe
   keyed-gives of_text n fs es h = by (entry_at n es) refl
     where
       by : (o : Option Value) → entry_at n es ≡ o → HasShape N (join base (any_field base fs) nulls) (unwrap_or o null)
-      by None is = (join-right base N means) (any_field base fs) nulls null tt
+      by None is = (join-has base N means) (any_field base fs) nulls null (inr tt)
       by (Some w) is =
-          (join-left base N means) (any_field base fs) nulls w ((any-has base N means) fs n w ((at-entry base N means) (IsField N fs) n w es is h.1))
+          (join-has base N means) (any_field base fs) nulls w (inl ((any-has base N means) fs n w ((at-entry base N means) (IsField N fs) n w es is h.1)))
 
   -- of a list
   item-gives : (key : Key) (n : List ℕ) (least : ℕ) (s : Shape) (vs : Items) → HasShape N (list_of least s) (sequence vs)
@@ -570,10 +491,9 @@ module _ (base : Base) (N : Names) (means : Means base.defs N) (top : Value) whe
   index-gives (suc i) key n (list_of least s) _ h = absurd h
   index-gives (suc i) key n (record_of fs) (mapping es) h = keyed-gives key n fs es h
   index-gives (suc i) key n (record_of fs) _ h = absurd h
-  index-gives (suc i) key n (either s t) v h = elim h [
-    | inl x ↦ (both-left base N means) (index_shape_by base i key s) (index_shape_by base i key t) (told (element_at v (key_value key n))) (index-gives i key n s v x)
-    | inr x ↦ (both-right base N means) (index_shape_by base i key s) (index_shape_by base i key t) (told (element_at v (key_value key n))) (index-gives i key n t v x)
-  ]
+  index-gives (suc i) key n (either s t) v h =
+      (both-give base N means) (index_shape_by base i key s) (index_shape_by base i key t) (told (element_at v (key_value key n)))
+      (elim h [ inl x ↦ inl (index-gives i key n s v x) | inr x ↦ inr (index-gives i key n t v x) ])
   index-gives (suc i) key n (named y) v h = by (base.defs y) refl (λ s. index-gives i key n s v)
     where
       by : (o : Option Shape) → base.defs y ≡ o
@@ -757,17 +677,21 @@ module _ (base : Base) (N : Names) (means : Means base.defs N) (top : Value) whe
   key-values m d env (operand (text_constant n) os) e = rw (key-values m d env os e) refl
   key-values m d env (operand _ os) e = absurd (false≢true e)
 
+  -- a value and those that a function gets with it
+  called-ok : (f : Func) (x : Result Value Cause) (rs : Result (List Value) Cause) (a b c : Bool) (v : Value)
+      → (go_on (go_on x a (λ u. go_on rs b (λ vs. as_given (Ok (u ∷ vs))))).result c (λ vs. apply_function f (vs ++ []))).result ≡ Ok v
+      → (u : Value) × (ws : List Value) × (x ≡ Ok u) × (rs ≡ Ok ws) × ((apply_function f (u ∷ ws)).result ≡ Ok v)
+  called-ok f (Ok u) (Ok ws) a b c v e = (u, ws, refl, refl, subst (λ (js : List Value). (apply_function f (u ∷ js)).result ≡ Ok v) (append-nil ws) e)
+  called-ok f (Ok u) (Err cause) a b c v e = cc
+  called-ok f (Err cause) rs a b c v e = cc
+
   -- a value and its keys
   keys-ok : (x : Result Value Cause) (rs : Result (List Value) Cause) (a b c : Bool) (is : List Value) (v : Value) → rs ≡ Ok is
       → (go_on (go_on x a (λ u. go_on rs b (λ vs. as_given (Ok (u ∷ vs))))).result c (λ vs. apply_function func.Index (vs ++ []))).result ≡ Ok v
       → (u : Value) × (x ≡ Ok u) × (indexed_by u is ≡ Ok v)
-  keys-ok (Err cause) rs a b c is v same e = cc
-  keys-ok (Ok u) rs a b c is v same e = (
-    u,
-    refl,
-    by u (subst (λ (js : List Value). (apply_function func.Index (u ∷ js)).result ≡ Ok v) (append-nil is)
-        (subst (λ (q : Result (List Value) Cause). (go_on (go_on q b (λ vs. as_given (Ok (u ∷ vs)))).result c (λ vs. apply_function func.Index (vs ++ []))).result ≡ Ok v) same e)),
-  )
+  keys-ok x rs a b c is v same e =
+      let g = called-ok func.Index x rs a b c v e in
+      let keys : g.1 ≡ is = cc in (g.0, g.2, by g.0 (subst (λ (js : List Value). (apply_function func.Index (g.0 ∷ js)).result ≡ Ok v) keys g.4))
     where
       found-ok : (r : Result Value CallFault) → result_map_both (λ w. w) (call_failed func.Index) r ≡ Ok v → r ≡ Ok v
       found-ok (Ok w) e = let it : w ≡ v = cc in ap Ok it
@@ -824,16 +748,14 @@ module _ (base : Base) (N : Names) (means : Means base.defs N) (top : Value) whe
   inner-ok (Err cause) b m v e = cc
 
   operand-placed : (m : MissingKey) (o : Operand) (d : Value) (env : Environment) (v : Value) → (operand_value (place m d env) o).result ≡ Ok v → IsPlaced d env (place_of o) v
+  operand-placed m (group _ (_ ∷ _)) d env v e = tt
   operand-placed m (group (command (operand (function f) os) no_command) []) d env v e =
       let c = command_value (place m d env) (operand (function f) os) None in
       let p = commands_value (place m d env) (command (operand (function f) os) no_command) None in
       let g = without-ok c.result c.made_text v (inner-ok p.result p.made_text m v e) in
       subst (λ (x : Value). IsPlaced d env (call_place f os) x) g.2 (gone-placed d env (call_place f os) g.0 (call-placed m f os d env g.0 g.1))
-  operand-placed m (group p (n ∷ ns)) d env v e = tt
-  operand-placed m (group no_command []) d env v e = tt
-  operand-placed m (group (command no_operand no_command) []) d env v e = tt
-  operand-placed m (group (command (operand _ os) no_command) []) d env v e = tt
-  operand-placed m (group (command os (command us cs)) []) d env v e = tt
+  operand-placed m (group (command _ (command _ _)) []) d env v e = tt
+  operand-placed m (group _ []) d env v e = tt
   operand-placed m o d env v e = chain-placed m o [] d env v v e (at-root v)
 
   pipeline-placed : (m : MissingKey) (p : Pipeline) (d : Value) (env : Environment) (v : Value) → (commands_value (place m d env) p None).result ≡ Ok v
@@ -848,17 +770,21 @@ module _ (base : Base) (N : Names) (means : Means base.defs N) (top : Value) whe
       let g = without-ok c.result c.made_text v e in
       subst (λ (x : Value). IsPlaced d env (place_of o) x) g.2 (gone-placed d env (place_of o) g.0 (operand-placed m o d env g.0 g.1))
   pipeline-placed m (command (operand _ (operand _ _)) no_command) d env v e = tt
-  pipeline-placed m (command no_operand no_command) d env v e = tt
-  pipeline-placed m (command no_operand (command _ _)) d env v e = tt
   pipeline-placed m (command (operand _ _) (command _ _)) d env v e = tt
-  pipeline-placed m no_command d env v e = tt
+  pipeline-placed m _ d env v e = tt
 
   root-has : (k : State) (d : Value) (env : Environment) (root : Option (List ℕ)) → Fits k d env → HasOrigin top (root_origin k root) (root_value d env root)
   root-has k d env None h = h.2
-  root-has k d env (Some name) h = origin-has name k.env env h.1
+  root-has k d env (Some name) h = by (find_variable name k.env) (found-has name k.env env h.1)
+    where
+      by : (o : Option Variable) → IsFound o (lookup name env) → HasOrigin top (option_and_then (λ v. path_of v.2) o) (lookup name env)
+      by None i = tt
+      by (Some v) i = path-has top v.2 (lookup name env) i.1
 
-  place-has : (k : State) (d : Value) (env : Environment) (p : check.Place) (v : Value) → Fits k d env → IsAt p.path (root_value d env p.root) v → HasOrigin top (place_origin k p) v
-  place-has k d env p v h i = by (root_origin k p.root) (root-has k d env p.root h)
+  place-has : (k : State) (d : Value) (env : Environment) (o : Option check.Place) (v : Value) → Fits k d env → IsPlaced d env o v
+      → HasOrigin top (option_and_then (place_origin k) o) v
+  place-has k d env None v h i = tt
+  place-has k d env (Some p) v h i = by (root_origin k p.root) (root-has k d env p.root h)
     where
       by : (o : Origin) → HasOrigin top o (root_value d env p.root) → HasOrigin top (option_map (λ ps. ps ++ p.path) o) v
       by None g = tt
@@ -866,19 +792,11 @@ module _ (base : Base) (N : Names) (means : Means base.defs N) (top : Value) whe
 
   operand-has : (m : MissingKey) (o : Operand) (k : State) (d : Value) (env : Environment) (v : Value) → Fits k d env → (operand_value (place m d env) o).result ≡ Ok v
       → HasOrigin top (operand_origin k o) v
-  operand-has m o k d env v h e = by (place_of o) (operand-placed m o d env v e)
-    where
-      by : (o : Option check.Place) → IsPlaced d env o v → HasOrigin top (option_and_then (place_origin k) o) v
-      by None g = tt
-      by (Some q) g = place-has k d env q v h g
+  operand-has m o k d env v h e = place-has k d env (place_of o) v h (operand-placed m o d env v e)
 
   pub pipeline-has : (m : MissingKey) (p : Pipeline) (k : State) (d : Value) (env : Environment) (v : Value) → Fits k d env → (commands_value (place m d env) p None).result ≡ Ok v
       → HasOrigin top (pipeline_origin k p) v
-  pipeline-has m p k d env v h e = by (pipeline_place p) (pipeline-placed m p d env v e)
-    where
-      by : (o : Option check.Place) → IsPlaced d env o v → HasOrigin top (option_and_then (place_origin k) o) v
-      by None g = tt
-      by (Some q) g = place-has k d env q v h g
+  pipeline-has m p k d env v h e = place-has k d env (pipeline_place p) v h (pipeline-placed m p d env v e)
 
   root-fits : (test : Test) (p : check.Place) (k : State) (d : Value) (env : Environment) → Fits k d env → Ends test p.path (root_value d env p.root)
       → Fits (narrow_root base test p k) d env
@@ -894,7 +812,7 @@ module _ (base : Base) (N : Names) (means : Means base.defs N) (top : Value) whe
   placed-fits : (test : Test) (o : Option check.Place) (k : State) (d : Value) (env : Environment) (v : Value) → Fits k d env → IsPlaced d env o v → Shows test v
       → Fits (narrow_to base test o k) d env
   placed-fits test None k d env v h i t = h
-  placed-fits test (Some p) k d env v h i t = by (place_origin k p) (place-has k d env p v h i)
+  placed-fits test (Some p) k d env v h i t = by (place_origin k p) (place-has k d env (Some p) v h i)
     where
       by : (o : Origin) → HasOrigin top o v → Fits (option_map_or (λ ns. narrow_from base test ns k) o (narrow_root base test p k)) d env
       by None g = root-fits test p k d env h (at-ends test p.path (root_value d env p.root) v i t)
@@ -917,12 +835,7 @@ module _ (base : Base) (N : Names) (means : Means base.defs N) (top : Value) whe
 
   equality-left : (w : Value) → (equality nothing w ≡ Some (is_nothing w)) × (equality null w ≡ Some (is_nothing w))
   equality-left nothing = (refl, refl)
-  equality-left null = (refl, refl)
-  equality-left (boolean b) = (refl, refl)
-  equality-left (number n) = (refl, refl)
-  equality-left (string s) = (refl, refl)
-  equality-left (sequence vs) = (refl, refl)
-  equality-left (mapping es) = (refl, refl)
+  equality-left _ = (refl, refl)
 
   -- what equals a value that is neither nothing nor null is neither
   equal-thing : (v w : Value) → is_nothing w ≡ false → equality v w ≡ Some true → is_nothing v ≡ false
@@ -946,8 +859,7 @@ module _ (base : Base) (N : Names) (means : Means base.defs N) (top : Value) whe
 
   gone-ok : (r : Result Value Cause) (b : Bool) (v : Value) → (go_on r b (λ w. as_given (Ok (without_null w)))).result ≡ Ok v
       → (w : Value) × (r ≡ Ok w) × (truth w ≡ truth v)
-  gone-ok (Ok w) b v e = let same : without_null w ≡ v = cc in (w, refl, sym (truth-same w) ∙ ap truth same)
-  gone-ok (Err cause) b v e = cc
+  gone-ok r b v e = let g = without-ok r b v e in (g.0, g.1, sym (truth-same g.0) ∙ ap truth g.2)
 
   -- two values that a function gets, and one
   two-ok : (f : Func) (x y : Result Value Cause) (a b c e : Bool) (v : Value)
@@ -956,14 +868,6 @@ module _ (base : Base) (N : Names) (means : Means base.defs N) (top : Value) whe
   two-ok f (Ok u) (Ok w) a b c e v h = (u, w, refl, refl, h)
   two-ok f (Ok u) (Err cause) a b c e v h = cc
   two-ok f (Err cause) y a b c e v h = cc
-
-  -- a value and those it is compared with
-  called-ok : (f : Func) (x : Result Value Cause) (rs : Result (List Value) Cause) (a b c : Bool) (v : Value)
-      → (go_on (go_on x a (λ u. go_on rs b (λ vs. as_given (Ok (u ∷ vs))))).result c (λ vs. apply_function f (vs ++ []))).result ≡ Ok v
-      → (u : Value) × (ws : List Value) × (x ≡ Ok u) × (rs ≡ Ok ws) × ((apply_function f (u ∷ ws)).result ≡ Ok v)
-  called-ok f (Ok u) (Ok ws) a b c v e = (u, ws, refl, refl, subst (λ (js : List Value). (apply_function f (u ∷ js)).result ≡ Ok v) (append-nil ws) e)
-  called-ok f (Ok u) (Err cause) a b c v e = cc
-  called-ok f (Err cause) rs a b c v e = cc
 
   values-ok : (x : Result Value Cause) (rs : Result (List Value) Cause) (a b : Bool) (ws : List Value)
       → (go_on x a (λ v. go_on rs b (λ vs. as_given (Ok (v ∷ vs))))).result ≡ Ok ws → (w : Value) × (vs : List Value) × (x ≡ Ok w) × (rs ≡ Ok vs) × ((w ∷ vs) ≡ ws)
@@ -1025,29 +929,20 @@ module _ (base : Base) (N : Names) (means : Means base.defs N) (top : Value) whe
         subst (λ (p : Operand). IsLength p v) same (length-ok x.result x.made_text (operand_values (place m d env) (operand q no_operand)).made_text v
         (by_count-ok func.Len (takes func.Len (operand_count (operand q no_operand) + 0))
         (given_then (operand_values (place m d env) (operand q no_operand)) (λ vs. apply_function func.Len (vs ++ []))) v e))
-    call-counts func.Len no_operand o v is e = cc
-    call-counts func.Len (operand _ (operand _ _)) o v is e = cc
     call-counts _ os o v is e = cc
 
     command-counts : (os : Operands) (o : Operand) (v : Value) → counts_in (command_call os) ≡ Some o → (command_value (place m d env) os None).result ≡ Ok v → IsLength o v
     command-counts (operand (function f) os) o v is e = call-counts f os o v is e
-    command-counts (operand _ os) o v is e = cc
-    command-counts no_operand o v is e = cc
+    command-counts _ o v is e = cc
 
     operand-counts : (q o : Operand) (v : Value) → operand_counts q ≡ Some o → (operand_value (place m d env) q).result ≡ Ok v → IsLength o v
+    operand-counts (group _ (_ ∷ _)) o v is e = cc
     operand-counts (group (command os no_command) []) o v is e =
         let c = command_value (place m d env) os None in
         let p = commands_value (place m d env) (command os no_command) None in
-        let g = there-ok c.result c.made_text v (inner-ok p.result p.made_text m v e) in
+        let g = without-ok c.result c.made_text v (inner-ok p.result p.made_text m v e) in
         let l = command-counts os o g.0 is g.1 in
         (l.0, l.1, l.2, l.3, ap without_null l.4 ∙ g.2)
-      where
-        there-ok : (r : Result Value Cause) (b : Bool) (v : Value) → (go_on r b (λ w. as_given (Ok (without_null w)))).result ≡ Ok v → (w : Value) × (r ≡ Ok w) × (without_null w ≡ v)
-        there-ok (Ok w) b v e = (w, refl, cc)
-        there-ok (Err cause) b v e = cc
-    operand-counts (group no_command []) o v is e = cc
-    operand-counts (group (command _ (command _ _)) []) o v is e = cc
-    operand-counts (group _ (_ ∷ _)) o v is e = cc
     operand-counts _ o v is e = cc
 
     -- where a fact holds of the value of its operand
@@ -1078,9 +973,7 @@ module _ (base : Base) (N : Names) (means : Means base.defs N) (top : Value) whe
     passes-value test (mapping es) e f = tt
     passes-value test nothing e f = tt
     passes-value test null e f = tt
-    passes-value test (string t) e f = f
-    passes-value test (boolean b) e f = f
-    passes-value test (number n) e f = f
+    passes-value test _ e f = f
 
     -- what equals a constant is it, and what differs is not
     same-told : (u w x : Value) (b : Bool) → w ≡ x → equality u w ≡ Some b → is_same u x ≡ b
@@ -1119,7 +1012,7 @@ module _ (base : Base) (N : Names) (means : Means base.defs N) (top : Value) whe
             → (equal_to_one u vs ≡ Some true → (is_nothing u ≡ false) × (is_constant u os ≡ true)) → (is_nothing u ≡ false) × (is_constant u (operand o os) ≡ true)
         by w vs is e None at i more = cc
         by w vs is e (Some true) at i more = (tell-thing true m d env o u w is e at, constant-first u o os w is e at)
-        by w vs is e (Some false) at i more = let r = more i in (r.0, rw r.1 (or_true (is_named u o)))
+        by w vs is e (Some false) at i more = let r = more i in (r.0, rw r.1 (or_right (is_named u o) true refl))
 
     apart-shown : (os : Operands) (ws : List Value) (u : Value) → (operand_values (place m d env) os).result ≡ Ok ws → equal_to_one u ws ≡ Some false
         → is_constant u os ≡ false
@@ -1139,10 +1032,9 @@ module _ (base : Base) (N : Names) (means : Means base.defs N) (top : Value) whe
         by w vs e (Some false) at i more = constant-apart u o os w e at (more i)
 
     nil-alone : (os : Operands) → is_nil_alone os ≡ true → os ≡ operand nil no_operand
-    nil-alone (operand nil no_operand) e = refl
-    nil-alone (operand _ no_operand) e = absurd (false≢true e)
     nil-alone (operand _ (operand _ _)) e = absurd (false≢true e)
-    nil-alone no_operand e = absurd (false≢true e)
+    nil-alone (operand nil no_operand) e = refl
+    nil-alone _ e = absurd (false≢true e)
 
     equal-one : (u w : Value) (vs : List Value) → equal_to_one u (w ∷ vs) ≡ Some false → equality u w ≡ Some false
     equal-one u w vs e = by (equality u w) e
@@ -1178,11 +1070,6 @@ module _ (base : Base) (N : Names) (means : Means base.defs N) (top : Value) whe
               passes-value (is_apart os) u refl (ap not (apart-shown os ws u e h)),
             )
 
-    one-more : (o : Option Bool) (b : Bool) → o ≡ Some b → option_and_then (λ equal. if equal then Some true else Some false) o ≡ Some b
-    one-more None b e = cc
-    one-more (Some true) b e = e
-    one-more (Some false) b e = e
-
     constant_test-shown : (c : Bool) (f : Func) (os : Operands) (u : Value) (ws : List Value) (v : Value) (test : Test) → (operand_values (place m d env) os).result ≡ Ok ws
         → (apply_function f (u ∷ ws)).result ≡ Ok v → truth v ≡ c → constant_test c f os ≡ Some test → Shows test u
     constant_test-shown c func.Eq os u [] v test e h t is = cc
@@ -1190,7 +1077,7 @@ module _ (base : Base) (N : Names) (means : Means base.defs N) (top : Value) whe
         equal_test-shown c os (w ∷ ws) u test e (told-truth func.Eq (equal_to_one u (w ∷ ws)) v c h t) is
     constant_test-shown c func.Ne os u [] v test e h t is = cc
     constant_test-shown c func.Ne os u (w ∷ []) v test e h t is =
-        equal_test-shown (not c) os (w ∷ []) u test e (one-more (equality u w) (not c) (ne-told u w v c h t)) is
+        equal_test-shown (not c) os (w ∷ []) u test e (one-equal (equality u w) ∙ ne-told u w v c h t) is
     constant_test-shown c func.Ne os u (w ∷ x ∷ ws) v test e h t is = cc
     constant_test-shown c _ os u ws v test e h t is = cc
 
@@ -1228,8 +1115,7 @@ module _ (base : Base) (N : Names) (means : Means base.defs N) (top : Value) whe
     pairs-fit : (c : Bool) (f : Func) (o : Operand) (os : Operands) (k : State) (v : Value) → Fits k d env → call_value f (operand o os) ≡ Ok v → truth v ≡ c
         → Fits (narrow_as base (option_and_then (pair_fact c f o) (one_of os)) k) d env
     pairs-fit c f o (operand p no_operand) k v h e t = pair_fact-fits c f o p k v h e t
-    pairs-fit c f o (operand _ (operand _ _)) k v h e t = h
-    pairs-fit c f o no_operand k v h e t = h
+    pairs-fit c f o _ k v h e t = h
 
     turned-told : (c : Bool) (f : Func) (s : List ℕ) (w v : Value) (test : Test) → compared f (string s) w ≡ Ok v
         → constant_test c f (operand (text_constant s) no_operand) ≡ Some test → compared f w (string s) ≡ Ok v
@@ -1253,8 +1139,6 @@ module _ (base : Base) (N : Names) (means : Means base.defs N) (top : Value) whe
             let told : compared f (string s) g.1 ≡ Ok v = subst (λ (u : Value). compared f u g.1 ≡ Ok v) (sym same) g.4 in
             held-fits p test k h
             (g.1, g.3, constant_test-shown c f (operand (text_constant s) no_operand) g.1 (string s ∷ []) v test refl (turned-told c f s g.1 v test told is) t is)
-    turned_fact-fits c f (text_constant s) (operand p (operand q os)) k v h e t = h
-    turned_fact-fits c f (text_constant s) no_operand k v h e t = h
     turned_fact-fits c f o (operand p no_operand) k v h e t = h
     turned_fact-fits c f o (operand p (operand q os)) k v h e t = h
     turned_fact-fits c f o no_operand k v h e t = h
@@ -1284,9 +1168,7 @@ module _ (base : Base) (N : Names) (means : Means base.defs N) (top : Value) whe
     call_fact-fits : (f : Func) (c : Bool) (os : Operands) (k : State) (v : Value) → Fits k d env → call_value f os ≡ Ok v → truth v ≡ c
         → Fits (narrow_as base (call_fact c f os) k) d env
     call_fact-fits func.Len true (operand o no_operand) k v h e t = full_length-fits o k v h e t
-    call_fact-fits func.Len true (operand _ (operand _ _)) k v h e t = h
-    call_fact-fits func.Len true no_operand k v h e t = h
-    call_fact-fits func.Len false os k v h e t = h
+    call_fact-fits func.Len c os k v h e t = h
     call_fact-fits f c (operand o os) k v h e t = compare_fact-fits c f o os k v h e t
     call_fact-fits f c no_operand k v h e t = h
 
@@ -1317,8 +1199,7 @@ module _ (base : Base) (N : Names) (means : Means base.defs N) (top : Value) whe
         (λ o n l counts counting is. piped-counts c os f p o n l u v x e t counts counting is)
     piped_fact-fits c os (operand (function f) no_operand) k u v h x e t = length_fact-fits c (mirror f) (counts_in (command_call os)) None k h (λ o n l counts counting is. cc)
     piped_fact-fits c os (operand (function f) (operand _ (operand _ _))) k u v h x e t = length_fact-fits c (mirror f) (counts_in (command_call os)) None k h (λ o n l counts counting is. cc)
-    piped_fact-fits c os (operand _ us) k u v h x e t = h
-    piped_fact-fits c os no_operand k u v h x e t = h
+    piped_fact-fits c os _ k u v h x e t = h
 
     -- an operand of an `and` that is not empty is not empty, and one of an `or` that is empty is
     each-step : (c : Bool) (r : Result Value Cause) (b : Bool) (more : Value → Given Value) (v : Value)
@@ -1377,8 +1258,7 @@ module _ (base : Base) (N : Names) (means : Means base.defs N) (top : Value) whe
           call_fact-fits f c os k v h (by_count-ok f (takes f (operand_count os + 0)) (given_then (operand_values (place m d env) os) (λ vs. apply_function f (vs ++ []))) v e) t
       command-narrows (operand nil no_operand) c k v h e t = cc
       command-narrows (operand o no_operand) c k v h e t = operand-narrows o c k v h e t
-      command-narrows (operand _ (operand _ _)) c k v h e t = h
-      command-narrows no_operand c k v h e t = h
+      command-narrows _ c k v h e t = h
 
       pipeline-narrows : (p : Pipeline) (c : Bool) (k : State) (v : Value) → Fits k d env → (commands_value (place m d env) p None).result ≡ Ok v → truth v ≡ c
           → Fits (narrow base c p k) d env
@@ -1389,8 +1269,7 @@ module _ (base : Base) (N : Names) (means : Means base.defs N) (top : Value) whe
           let r = command_value (place m d env) os None in
           let g = two_commands-ok r.result r.made_text (piped_value us) v e in
           piped_fact-fits c os us k g.0 g.1 h g.2 g.3 (g.4 ∙ t)
-      pipeline-narrows (command _ (command _ (command _ _))) c k v h e t = h
-      pipeline-narrows no_command c k v h e t = h
+      pipeline-narrows _ c k v h e t = h
 
   -- ---- `slice`
 
@@ -1434,21 +1313,20 @@ module _ (base : Base) (N : Names) (means : Means base.defs N) (top : Value) whe
     at-gives : (name : List ℕ) (k : State) (from : Origin) (key s : Shape) (w v : Value) → Fits k d env → (operand_value (place m d env) (variable name [])).result ≡ Ok w
         → HasShape N key w → HasShape N s v → HasOrigin top from v → (Gives base N means) (check.entry_at base k (variable name []) from key s) (told (element_at v w))
     at-gives name k None key s w v fits e g h i = entry_by-gives key s w v g h
-    at-gives name k (Some ps) key s w v fits e g h i = by (variable_owner name k.env) (owned name k.env env fits.1)
+    at-gives name k (Some ps) key s w v fits e g h i = by (find_variable name k.env) (found-has name k.env env fits.1)
       where
         here : lookup name env ≡ w
         here = cc
 
-        by : (o : Origin) → HasTie top (key_tie o) (lookup name env)
-            → (Gives base N means) (if option_map_or (is_path ps) o false then own_entry base s else entry_by base key s) (told (element_at v w))
+        by : (o : Option Variable) → IsFound o (lookup name env)
+            → (Gives base N means) (if option_map_or (λ u. tie_within u.2 (keyed ps)) o false then own_entry base s else entry_by base key s) (told (element_at v w))
         by None t = entry_by-gives key s w v g h
-        by (Some qs) t = same (is_path ps qs) refl
+        by (Some u) t = same (tie_within u.2 (keyed ps)) refl
           where
-            same : (b : Bool) → is_path ps qs ≡ b → (Gives base N means) (if b then own_entry base s else entry_by base key s) (told (element_at v w))
+            same : (b : Bool) → tie_within u.2 (keyed ps) ≡ b → (Gives base N means) (if b then own_entry base s else entry_by base key s) (told (element_at v w))
             same false is = entry_by-gives key s w v g h
             same true is =
-                own-gives s v w h (λ there. subst (λ (x : Value). IsKeyOf v x) here
-                (is-key top qs v (lookup name env) t (subst (λ (rs : List (List ℕ)). IsAt rs top v) (path-same ps qs is) i) there))
+                own-gives s v w h (λ there. subst (λ (x : Value). IsKeyOf v x) here (tie_within-has top u.2 (keyed ps) (lookup name env) is t.1 v i there))
 
     junction-step : (is_or : Bool) (o : Operand) (os : Operands) (k : State) (ps : Option Shape) (pv : Option Value) → Fits k d env
         → ((u : State) (s : Shape) (v : Value) → Fits u d env → HasShape N s v → (Gives base N means) (junction_shape base is_or m u s os ps) (junction is_or (place m d env) v os pv).result)
@@ -1458,25 +1336,25 @@ module _ (base : Base) (N : Names) (means : Means base.defs N) (top : Value) whe
     junction-step true o os k ps pv fits more s v e h = by (truth v) refl
       where
         by : (b : Bool) → truth v ≡ b → (Gives base N means) (both base (Some (fill base s)) (junction_shape base true m (narrow_operand base false o k) s os ps)) (decided b v (junction true (place m d env) v os pv)).result
-        by true t = (both-left base N means) (Some (fill base s)) (junction_shape base true m (narrow_operand base false o k) s os ps) (Ok v) ((fill-has base N means) s v h t)
+        by true t = (both-give base N means) (Some (fill base s)) (junction_shape base true m (narrow_operand base false o k) s os ps) (Ok v) (inl ((fill-has base N means) s v h t))
         by false t =
-            (both-right base N means) (Some (fill base s)) (junction_shape base true m (narrow_operand base false o k) s os ps) (junction true (place m d env) v os pv).result
-            (more (narrow_operand base false o k) s v (operand-narrows m d env o false k v fits e t) h)
+            (both-give base N means) (Some (fill base s)) (junction_shape base true m (narrow_operand base false o k) s os ps) (junction true (place m d env) v os pv).result
+            (inr (more (narrow_operand base false o k) s v (operand-narrows m d env o false k v fits e t) h))
     junction-step false o os k ps pv fits more s v e h = by (truth v) refl
       where
         by : (b : Bool) → truth v ≡ b → (Gives base N means) (both base (Some s) (junction_shape base false m (narrow_operand base true o k) (fill base s) os ps))
             (decided (not b) v (junction false (place m d env) v os pv)).result
-        by false t = (both-left base N means) (Some s) (junction_shape base false m (narrow_operand base true o k) (fill base s) os ps) (Ok v) h
+        by false t = (both-give base N means) (Some s) (junction_shape base false m (narrow_operand base true o k) (fill base s) os ps) (Ok v) (inl h)
         by true t =
-            (both-right base N means) (Some s) (junction_shape base false m (narrow_operand base true o k) (fill base s) os ps) (junction false (place m d env) v os pv).result
-            (more (narrow_operand base true o k) (fill base s) v (operand-narrows m d env o true k v fits e t) ((fill-has base N means) s v h t))
+            (both-give base N means) (Some s) (junction_shape base false m (narrow_operand base true o k) (fill base s) os ps) (junction false (place m d env) v os pv).result
+            (inr (more (narrow_operand base true o k) (fill base s) v (operand-narrows m d env o true k v fits e t) ((fill-has base N means) s v h t)))
 
     mutual
       operand-gives : (o : Operand) (k : State) → Fits k d env → (Gives base N means) (operand_shape base m k o) (operand_value (place m d env) o).result
       operand-gives dot k fits = fits.0
       operand-gives (fields names) k fits = (chain-gives base N means) m names k.dot d fits.0
       operand-gives (variable name names) k fits =
-          found-gives (chain_shape base (absent_field m) names) (chain m names) ((chain-gives base N means) m names) (variable_shape name k.env) (lookup name env) (lookup-gives name k.env env fits.1)
+          found-gives (chain_shape base (absent_field m) names) (chain m names) ((chain-gives base N means) m names) (find_variable name k.env) (lookup name env) (found-has name k.env env fits.1)
       operand-gives (group p names) k fits =
           go-gives (chain_shape base (absent_field m) names) (λ v. as_given (chain m names v)) (commands_shape base m k p None) (commands_value (place m d env) p None).result
           (commands_value (place m d env) p None).made_text (commands-give p k None None fits tt) (λ s v e. (chain-gives base N means) m names s v)

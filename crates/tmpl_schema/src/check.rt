@@ -96,23 +96,10 @@ fn check_callee(
     ensures { OnOk result (IsCallee (base_of checker.now.base) checker.now.mode stops.now (set_view set.now)
         (table_of checker.now.table.now) entry.now.name (callee_of entry.now.callee)) }
 {
-    match &entry.callee {
-        Callee::Handed(shape) => match set.get(entry.name.as_slice()) {
-            Some(tree) => match check_handed(checker, set, stops, shape, tree) {
-                Ok(()) => Ok(()),
-                Err(failure) => Err(failure),
-            },
-            None => Err(Failure::may_fail(checker.base.alloc, Cause::Command, None)),
-        },
-        Callee::Absent => match set.get(entry.name.as_slice()) {
-            Some(_) => Err(Failure::may_fail(checker.base.alloc, Cause::Command, None)),
-            None => {
-                if is_stop(stops, entry.name.as_slice()) {
-                    return Ok(());
-                }
-                Err(Failure::may_fail(checker.base.alloc, Cause::Command, None))
-            }
-        },
+    match (&entry.callee, set.get(entry.name.as_slice())) {
+        (Callee::Handed(shape), Some(tree)) => check_handed(checker, set, stops, shape, tree),
+        (Callee::Absent, None) if is_stop(stops, entry.name.as_slice()) => Ok(()),
+        _ => Err(Failure::may_fail(checker.base.alloc, Cause::Command, None)),
     }
 }
 
@@ -151,13 +138,11 @@ fn check_all(base: &Base<'_>, question: &Question<'_>, table: &[Entry]) -> Resul
         table,
     };
     match question.set.get(question.name) {
-        Some(tree) => match check_tree(&checker, question.shape, tree) {
-            Ok(()) => {
-                check_callees(&checker, question.set, question.stops, table)?;
-                Ok(())
-            }
-            Err(failure) => Err(failure),
-        },
+        Some(tree) => {
+            check_tree(&checker, question.shape, tree)?;
+            check_callees(&checker, question.set, question.stops, table)?;
+            Ok(())
+        }
         None => Err(Failure::may_fail(checker.base.alloc, Cause::Command, None)),
     }
 }
@@ -219,17 +204,13 @@ pub fn check_schema(
         effort: &effort,
         alloc,
     };
-    match null_gone(&base, &schema.shape) {
-        Ok(shape) => {
-            let question = Question {
-                set,
-                name,
-                shape: &shape,
-                asked: mode,
-                stops,
-            };
-            check_shape(&base, &question)
-        }
-        Err(_) => Err(Refusal::OutOfMemory),
-    }
+    let shape = null_gone(&base, &schema.shape)?;
+    let question = Question {
+        set,
+        name,
+        shape: &shape,
+        asked: mode,
+        stops,
+    };
+    check_shape(&base, &question)
 }

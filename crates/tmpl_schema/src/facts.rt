@@ -90,10 +90,7 @@ pub(crate) fn key_of(operand: &Operand) -> Option<Key<'_>>
 {
     match operand {
         Operand::Text(text) => Some(Key::Name(text.as_slice())),
-        Operand::Number(_) => match count_of(operand) {
-            Some(place) => Some(Key::Place(place)),
-            None => None,
-        },
+        Operand::Number(_) => Some(Key::Place(count_of(operand)?)),
         Operand::Dot | Operand::Fields(_) | Operand::Variable { .. } => None,
         Operand::Bool(_) | Operand::Nil | Operand::Function(_) | Operand::Group { .. } => None,
     }
@@ -119,11 +116,9 @@ fn one_of(operands: &[Operand]) -> Option<&Operand>
     ensures { option_map (λ o. operand_of o.now) result ≡ one_of (operands_in operands.now) }
 {
     match operands {
+        [only] => Some(only),
         [] => None,
-        [only, rest @ ..] => match rest {
-            [] => Some(only),
-            [_, _more @ ..] => None,
-        },
+        [_, _, ..] => None,
     }
 }
 
@@ -233,7 +228,7 @@ fn group_place<'p>(commands: &'p [Command], fields: &[Bytes]) -> Option<Place<'p
             Some((func, operands)) => call_place(func, operands),
             None => None,
         },
-        [_, _more @ ..] => None,
+        [_, ..] => None,
     }
 }
 
@@ -264,7 +259,7 @@ fn group_counts<'p>(commands: &'p [Command], fields: &[Bytes]) -> Option<&'p Ope
 {
     match fields {
         [] => counts_in(pipeline_call(commands)),
-        [_, _more @ ..] => None,
+        [_, ..] => None,
     }
 }
 
@@ -287,41 +282,16 @@ fn more_than(number: u64) -> Option<u64>
     if number == 0 { Some(1) } else { None }
 }
 
-/// How many items there are at least where their number compared with this one gives true.
-fn least_where_true(func: Func, number: u64) -> Option<u64>
-    requires { number < 2 ^ 63 }
-    ensures { result ≡ least_by true func number }
-{
-    match func {
-        Func::Eq | Func::Ge => Some(number),
-        Func::Ne => more_than(number),
-        Func::Gt => Some(number + 1),
-        _ => None,
-    }
-}
-
-/// .. where it gives false.
-fn least_where_false(func: Func, number: u64) -> Option<u64>
-    requires { number < 2 ^ 63 }
-    ensures { result ≡ least_by false func number }
-{
-    match func {
-        Func::Ne | Func::Lt => Some(number),
-        Func::Eq => more_than(number),
-        Func::Le => Some(number + 1),
-        _ => None,
-    }
-}
-
-/// .. where it gives true, or else where it gives false.
+/// How many items there are at least where their number compared with this one gives true, or else where it gives false.
 fn least_by(truth: bool, func: Func, number: u64) -> Option<u64>
     requires { number < 2 ^ 63 }
     ensures { result ≡ least_by truth func number }
 {
-    if truth {
-        least_where_true(func, number)
-    } else {
-        least_where_false(func, number)
+    match (truth, func) {
+        (true, Func::Eq | Func::Ge) | (false, Func::Ne | Func::Lt) => Some(number),
+        (true, Func::Ne) | (false, Func::Eq) => more_than(number),
+        (true, Func::Gt) | (false, Func::Le) => Some(number + 1),
+        _ => None,
     }
 }
 

@@ -43,12 +43,9 @@ fn diverges(checker: &Checker<'_>, node: &Node) -> bool
     ensures { result ≡ diverges (table_of checker.now.table.now) (node_of node.now).what }
 {
     match &node.what {
-        NodeKind::Break => true,
-        NodeKind::Continue => true,
+        NodeKind::Break | NodeKind::Continue => true,
         NodeKind::Template(name, _) => is_absent(checker, name.as_slice()),
-        NodeKind::Text(_) => false,
-        NodeKind::Action(_) => false,
-        NodeKind::Control(_) => false,
+        NodeKind::Text(_) | NodeKind::Action(_) | NodeKind::Control(_) => false,
     }
 }
 

@@ -5,11 +5,11 @@ ghost use Rattle.std.specs.Prelude.{◌≡◌, IfOk, Some, length, ◌∷◌};
 ghost use Rattle.std.specs.Option.{option_map};
 ghost use Rattle.tmpl_grammar.specs.View.{binding_of};
 ghost use Rattle.tmpl_shape.specs.View.{shape_of};
-ghost use Rattle.tmpl_schema.specs.computed.Check.{after_both, after_parts, all_within, assigned_shape, bound_shapes, holds_loop, join_all, join_parts, join_to};
-ghost use Rattle.tmpl_schema.specs.computed.Check.{last_of, refine_all, refine_along, refine_from, refine_variable, rest_of, variable_origin, variable_owner, variable_shape};
+ghost use Rattle.tmpl_schema.specs.computed.Check.{after_both, after_parts, all_within, assigned_shape, bound_shapes, find_variable, holds_loop, join_all, join_parts, join_to};
+ghost use Rattle.tmpl_schema.specs.computed.Check.{last_of, refine_all, refine_from, refine_variable};
 ghost use Rattle.tmpl_shape.specs.computed.Shapes.{join};
-ghost use Rattle.tmpl_shape.specs.computed.View.{base_of, shape_seen, test_seen};
-ghost use Rattle.tmpl_schema.specs.computed.View.{is_longer, known_of, known_seen, origin_of, tie_seen};
+ghost use Rattle.tmpl_shape.specs.computed.View.{base_of, test_seen};
+ghost use Rattle.tmpl_schema.specs.computed.View.{is_longer, known_of, known_seen, origin_of, tie_seen, variable_of};
 
 use crate::flow::FallThrough;
 use crate::origin::{Tie, rest_of};
@@ -92,55 +92,17 @@ pub(crate) fn copy_known(known: &Known) -> Result<Known, AllocError>
     }
 }
 
-/// The shape of the newest variable of a name.
-pub(crate) fn variable_shape<'k>(name: &[u8], known: &'k Known) -> Option<&'k Shape>
-    ensures { shape_seen result ≡ variable_shape name.now (known_of known.now) }
+/// The newest variable of a name.
+pub(crate) fn find_variable<'k>(name: &[u8], known: &'k Known) -> Option<&'k Variable>
+    ensures { option_map (λ v. variable_of v.now) result ≡ find_variable name.now (known_of known.now) }
 {
     match known {
         Known::Empty => None,
         Known::More(newest) => {
             if newest.name.as_slice() == name {
-                Some(&newest.shape)
+                Some(newest)
             } else {
-                variable_shape(name, &newest.older)
-            }
-        }
-    }
-}
-
-/// The provenance of the newest variable of a name.
-pub(crate) fn variable_origin<'k>(name: &[u8], known: &'k Known) -> Option<&'k [Bytes]>
-    ensures { option_map (λ p. p.now) result ≡ variable_origin name.now (known_of known.now) }
-{
-    match known {
-        Known::Empty => None,
-        Known::More(newest) => {
-            if newest.name.as_slice() == name {
-                match &newest.tie {
-                    Tie::Valued(path) => Some(path.as_slice()),
-                    Tie::Untied | Tie::Keyed(_) => None,
-                }
-            } else {
-                variable_origin(name, &newest.older)
-            }
-        }
-    }
-}
-
-/// The provenance of what the newest variable of a name is an index or a key of.
-pub(crate) fn variable_owner<'k>(name: &[u8], known: &'k Known) -> Option<&'k [Bytes]>
-    ensures { option_map (λ p. p.now) result ≡ variable_owner name.now (known_of known.now) }
-{
-    match known {
-        Known::Empty => None,
-        Known::More(newest) => {
-            if newest.name.as_slice() == name {
-                match &newest.tie {
-                    Tie::Keyed(path) => Some(path.as_slice()),
-                    Tie::Untied | Tie::Valued(_) => None,
-                }
-            } else {
-                variable_owner(name, &newest.older)
+                find_variable(name, &newest.older)
             }
         }
     }
@@ -225,12 +187,10 @@ pub(crate) fn bind(
 fn is_longer(known: &Known, other: &Known) -> bool
     ensures { result ≡ is_longer (known_of known.now) (known_of other.now) }
 {
-    match known {
-        Known::Empty => false,
-        Known::More(newest) => match other {
-            Known::Empty => true,
-            Known::More(others) => is_longer(&newest.older, &others.older),
-        },
+    match (known, other) {
+        (Known::More(newest), Known::More(others)) => is_longer(&newest.older, &others.older),
+        (Known::More(_), Known::Empty) => true,
+        (Known::Empty, _) => false,
     }
 }
 
@@ -287,36 +247,22 @@ pub(crate) fn refine_variable(
     }
 }
 
-/// The values at a chain from the data of the template, where another is so.
-fn refine_along(
-    base: &Base<'_>,
-    test: Test<'_>,
-    names: &[Bytes],
-    path: &[Bytes],
-    shape: &Rc<Shape>,
-) -> Result<Rc<Shape>, AllocError>
-    ensures { IfOk result (λ s. shape_of s.value ≡ refine_along (base_of base.now) (test_seen test.entry) names.now
-        (shape_of shape.now.value) (rest_of path.now names.now)) }
-{
-    match rest_of(path, names) {
-        Some(rest) => Ok(Rc::new(base.alloc, refine(base, test, rest, shape)?)?),
-        None => Rc::clone(shape),
-    }
-}
-
 /// The values of a provenance, where a chain from the data of the template is so.
 pub(crate) fn refine_from(
     base: &Base<'_>,
     test: Test<'_>,
     names: &[Bytes],
-    origin: &Option<Vec<Bytes>>,
+    origin: Option<&[Bytes]>,
     shape: &Rc<Shape>,
 ) -> Result<Rc<Shape>, AllocError>
-    ensures { IfOk result (λ s. shape_of s.value
-        ≡ refine_from (base_of base.now) (test_seen test.entry) names.now (origin_of origin.now) (shape_of shape.now.value)) }
+    ensures { IfOk result (λ s. shape_of s.value ≡ refine_from (base_of base.now) (test_seen test.entry) names.now
+        (option_map (λ p. p.now) origin.entry) (shape_of shape.now.value)) }
 {
-    match origin {
-        Some(path) => refine_along(base, test, names, path.as_slice(), shape),
+    let Some(path) = origin else {
+        return Rc::clone(shape);
+    };
+    match rest_of(path, names) {
+        Some(rest) => Ok(Rc::new(base.alloc, refine(base, test, rest, shape)?)?),
         None => Rc::clone(shape),
     }
 }
@@ -335,16 +281,7 @@ pub(crate) fn refine_all(
     match known {
         Known::Empty => Ok(Known::Empty),
         Known::More(newest) => {
-            let shape = match &newest.tie {
-                Tie::Valued(path) => refine_along(
-                    base,
-                    test,
-                    names,
-                    path.as_slice(),
-                    &newest.shape,
-                )?,
-                Tie::Untied | Tie::Keyed(_) => Rc::clone(&newest.shape)?,
-            };
+            let shape = refine_from(base, test, names, newest.tie.path(), &newest.shape)?;
             let tie = newest.tie.copy(base.alloc)?;
             let older = refine_all(base, test, names, &newest.older)?;
             put_variable(base.alloc, newest.name.as_slice(), shape, tie, older)

@@ -92,13 +92,11 @@ fn acts(
     match &header.binding {
         Binding::Unbound => {
             let names = [judge.parts.text, judge.parts.from, judge.parts.index];
-            if !kept {
-                if !slices(&names, commands) {
-                    return Err(other(judge));
-                }
-                return ends_well(judge, rest, true, anew);
+            if kept {
+                has_value(judge, commands)?;
+            } else if !slices(&names, commands) {
+                return Err(other(judge));
             }
-            has_value(judge, commands)?;
             ends_well(judge, rest, true, anew)
         }
         Binding::Assign(name) => {
@@ -126,16 +124,13 @@ fn chooses(
         [] => {}
         [_, _more @ ..] => return Err(other(judge)),
     }
-    match control.control {
-        Control::If => match &control.header.binding {
-            Binding::Unbound => {
-                has_value(judge, control.header.pipeline.commands.as_slice())?;
-                ends_well(judge, control.body.as_slice(), kept, anew)?;
-                ends_well(judge, control.other.as_slice(), kept, anew)
-            }
-            Binding::Assign(_) | Binding::Declare(_) | Binding::DeclarePair(_) => Err(other(judge)),
-        },
-        Control::With | Control::Range => Err(other(judge)),
+    match (control.control, &control.header.binding) {
+        (Control::If, Binding::Unbound) => {
+            has_value(judge, control.header.pipeline.commands.as_slice())?;
+            ends_well(judge, control.body.as_slice(), kept, anew)?;
+            ends_well(judge, control.other.as_slice(), kept, anew)
+        }
+        _ => Err(other(judge)),
     }
 }
 

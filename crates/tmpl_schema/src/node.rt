@@ -7,10 +7,10 @@ ghost use Rattle.tmpl_grammar.specs.View.{header_of, pipeline_of};
 ghost use Rattle.tmpl_shape.specs.Shape.{nothings};
 ghost use Rattle.tmpl_shape.specs.View.{shape_of};
 ghost use Rattle.tmpl_shape.specs.computed.View.{base_of, visit_seen};
-ghost use Rattle.tmpl_schema.specs.computed.Check.{after_node, after_nodes, at_head, in_body, in_other, in_turn};
+ghost use Rattle.tmpl_schema.specs.computed.Check.{after_node, after_nodes, at_head, bind_value, in_body, in_part, in_turn};
 ghost use Rattle.tmpl_schema.specs.computed.Check.{pipeline_shape, settle_known, settle_soon};
-ghost use Rattle.tmpl_schema.specs.computed.View.{after_action, after_choice_by, after_of, after_range_by, known_of, known_seen, origin_of, state_of, table_of, turn_by};
-ghost use Rattle.tmpl_syntax.specs.Tree.{template_node};
+ghost use Rattle.tmpl_schema.specs.computed.View.{after_choice_by, after_of, after_range_by, known_of, known_seen, origin_of, state_of, table_of, turn_by};
+ghost use Rattle.tmpl_syntax.specs.Tree.{action, template_node};
 ghost use Rattle.tmpl_syntax.specs.View.{control_of, node_of, nodes_in};
 
 use crate::after::{After, end_parts, join_left, leave_with, with_left};
@@ -65,7 +65,45 @@ impl Checker<'_> {
     }
 }
 
-/// Where the body of an `if` or a `with` begins.
+/// The variables, where a header binds them to its value, which has this shape.
+fn bind_value(
+    base: &Base<'_>,
+    header: &Header,
+    state: &State,
+    shape: &Shape,
+    known: &Known,
+) -> Result<Known, AllocError>
+    ensures { IfOk result (λ ks. known_of ks
+        ≡ bind_value (header_of header.now) (state_of state.now) (shape_of shape.now) (known_of known.now)) }
+{
+    let origin = pipeline_origin(base.alloc, header.pipeline.commands.as_slice(), state)?;
+    let bound = Bound {
+        key: &Shape::Nothings,
+        over: &None,
+        element: shape,
+        origin: &origin,
+    };
+    bind(base, &header.binding, &bound, known)
+}
+
+/// Where a part of an `if` or a `with` begins, whose value is not empty there, or else is, and has this shape.
+pub(crate) fn in_part(
+    base: &Base<'_>,
+    full: bool,
+    header: &Header,
+    state: &State,
+    shape: &Shape,
+) -> Result<State, AllocError>
+    ensures { IfOk result (λ k. state_of k
+        ≡ in_part (base_of base.now) full (header_of header.now) (state_of state.now) (shape_of shape.now)) }
+{
+    let before = narrow(base, full, header.pipeline.commands.as_slice(), state)?;
+    let known = bind_value(base, header, state, shape, &before.known)?;
+    let State { dot, origin, .. } = before;
+    Ok(State { dot, origin, known })
+}
+
+/// Where the body begins.
 pub(crate) fn in_body(
     base: &Base<'_>,
     control: Control,
@@ -77,48 +115,15 @@ pub(crate) fn in_body(
         ≡ in_body (base_of base.now) control (header_of header.now) (state_of state.now) (shape_of shape.now)) }
 {
     let full = fill(base, shape)?;
-    let from = pipeline_origin(base.alloc, header.pipeline.commands.as_slice(), state)?;
-    let before = narrow(base, true, header.pipeline.commands.as_slice(), state)?;
-    let bound = Bound {
-        key: &Shape::Nothings,
-        over: &None,
-        element: &full,
-        origin: &from,
-    };
-    let known = bind(base, &header.binding, &bound, &before.known)?;
-    let State { dot, origin, .. } = before;
+    let State { dot, origin, known } = in_part(base, true, header, state, &full)?;
     match control {
         Control::With => Ok(State {
             dot: Rc::new(base.alloc, full)?,
-            origin: from,
+            origin: pipeline_origin(base.alloc, header.pipeline.commands.as_slice(), state)?,
             known,
         }),
-        Control::If => Ok(State { dot, origin, known }),
-        Control::Range => Ok(State { dot, origin, known }),
+        Control::If | Control::Range => Ok(State { dot, origin, known }),
     }
-}
-
-/// Where its other part begins.
-pub(crate) fn in_other(
-    base: &Base<'_>,
-    header: &Header,
-    state: &State,
-    shape: &Shape,
-) -> Result<State, AllocError>
-    ensures { IfOk result (λ k. state_of k
-        ≡ in_other (base_of base.now) (header_of header.now) (state_of state.now) (shape_of shape.now)) }
-{
-    let from = pipeline_origin(base.alloc, header.pipeline.commands.as_slice(), state)?;
-    let before = narrow(base, false, header.pipeline.commands.as_slice(), state)?;
-    let bound = Bound {
-        key: &Shape::Nothings,
-        over: &None,
-        element: shape,
-        origin: &from,
-    };
-    let known = bind(base, &header.binding, &bound, &before.known)?;
-    let State { dot, origin, .. } = before;
-    Ok(State { dot, origin, known })
 }
 
 /// What is known where the first turn of a range begins: what it ranges over is not empty.
@@ -164,22 +169,12 @@ pub(crate) fn in_turn(
 
 /// After an action.
 fn after_action(checker: &Checker<'_>, state: &State, header: &Header) -> Result<After, Failure>
-    ensures { IfOk result (λ a. after_action (base_of checker.now.base) checker.now.mode (state_of state.now)
-        (header_of header.now) ≡ Some (after_of a)) }
+    ensures { IfOk result (λ a. after_node (base_of checker.now.base) checker.now.mode
+        (table_of checker.now.table.now) None (state_of state.now) (action (header_of header.now)) ≡ Some (after_of a)) }
 {
     let shape = checker.pipeline_shape(state, &header.pipeline)?;
-    let from = pipeline_origin(
-        checker.base.alloc,
-        header.pipeline.commands.as_slice(),
-        state,
-    )?;
-    let bound = Bound {
-        key: &Shape::Nothings,
-        over: &None,
-        element: &shape,
-        origin: &from,
-    };
-    Ok(After::past(bind(&checker.base, &header.binding, &bound, &state.known)?))
+    let known = bind_value(&checker.base, header, state, &shape, &state.known)?;
+    Ok(After::past(known))
 }
 
 /// The shape of what is handed to a template.
@@ -197,15 +192,10 @@ fn handed_shape(
     }
 }
 
-/// That a template is called with values of this shape.
-fn want_call(alloc: Global, name: &Bytes, shape: Shape) -> Failure {
-    match copy_name(alloc, name.as_slice()) {
-        Ok(name) => match Box::new(alloc, Call { name, shape }) {
-            Ok(call) => Failure::Wanted(call),
-            Err(_) => Failure::OutOfMemory,
-        },
-        Err(_) => Failure::OutOfMemory,
-    }
+/// A call of a template with values of this shape.
+fn call_with(alloc: Global, name: &Bytes, shape: Shape) -> Result<Box<Call>, AllocError> {
+    let name = copy_name(alloc, name.as_slice())?;
+    Ok(Box::new(alloc, Call { name, shape })?)
 }
 
 /// After a call of a template.
@@ -225,13 +215,13 @@ fn after_call(
         Some(Callee::Handed(shape)) => {
             let given = handed_shape(checker, state, given)?;
             if !within(&checker.base, &given, shape) {
-                return Err(want_call(checker.base.alloc, name, given));
+                return Err(Failure::Wanted(call_with(checker.base.alloc, name, given)?));
             }
             Ok(After::past(copy_known(&state.known)?))
         }
         None => {
             let given = handed_shape(checker, state, given)?;
-            Err(want_call(checker.base.alloc, name, given))
+            Err(Failure::Wanted(call_with(checker.base.alloc, name, given)?))
         }
     }
 }
@@ -262,7 +252,7 @@ fn after_choice(
 {
     let inside = in_body(&checker.base, control, parts.header, state, shape)?;
     let one = after_nodes(checker, head, inside, parts.body)?;
-    let outside = in_other(&checker.base, parts.header, state, shape)?;
+    let outside = in_part(&checker.base, false, parts.header, state, shape)?;
     let other = after_nodes(checker, head, outside, parts.other)?;
     let through = fall_through(checker, parts.body, parts.other);
     Ok(end_parts(&checker.base, through, &state.known, one, other)?)
@@ -404,8 +394,7 @@ pub(crate) fn after_node(
         NodeKind::Text(_) => Ok(After::past(copy_known(&state.known)?)),
         NodeKind::Action(header) => after_action(checker, state, header),
         NodeKind::Control(control) => after_control(checker, head, state, control),
-        NodeKind::Break => Ok(leave_with(&checker.base, &state.known, head)?),
-        NodeKind::Continue => Ok(leave_with(&checker.base, &state.known, head)?),
+        NodeKind::Break | NodeKind::Continue => Ok(leave_with(&checker.base, &state.known, head)?),
         NodeKind::Template(name, given) => after_call(checker, state, name, given),
     }
 }

@@ -4,7 +4,7 @@
 ghost use Rattle.std.specs.Prelude.{◌≡◌, ◌++◌, IfOk, OnOk};
 ghost use Rattle.std.specs.Option.{option_map};
 ghost use Rattle.tmpl_grammar.specs.View.{operands_in};
-ghost use Rattle.tmpl_schema.specs.computed.Check.{is_path, join_ties, key_tie, rest_of, texts_in, tie_of, tie_within};
+ghost use Rattle.tmpl_schema.specs.computed.Check.{is_path, join_ties, key_tie, path_of, rest_of, texts_in, tie_of, tie_within};
 ghost use Rattle.tmpl_schema.specs.computed.View.{origin_of, place_seen, tie_seen};
 
 use crate::facts::{Place, text_of};
@@ -29,7 +29,7 @@ impl Tie {
         ensures { IfOk result (λ t. tie_seen t ≡ tie_of (origin_of origin.now)) }
     {
         match origin {
-            Some(path) => Ok(Tie::Valued(join_paths(alloc, path.as_slice(), &[])?)),
+            Some(path) => Ok(Tie::Valued(copy_path(alloc, path.as_slice())?)),
             None => Ok(Tie::Untied),
         }
     }
@@ -39,8 +39,18 @@ impl Tie {
         ensures { IfOk result (λ t. tie_seen t ≡ key_tie (origin_of over.now)) }
     {
         match over {
-            Some(path) => Ok(Tie::Keyed(join_paths(alloc, path.as_slice(), &[])?)),
+            Some(path) => Ok(Tie::Keyed(copy_path(alloc, path.as_slice())?)),
             None => Ok(Tie::Untied),
+        }
+    }
+
+    /// The chain at which the value of the variable is, if that is known.
+    pub(crate) fn path(&self) -> Option<&[Bytes]>
+        ensures { option_map (λ p. p.now) result ≡ path_of (tie_seen self.now) }
+    {
+        match self {
+            Tie::Valued(path) => Some(path.as_slice()),
+            Tie::Untied | Tie::Keyed(_) => None,
         }
     }
 
@@ -50,8 +60,8 @@ impl Tie {
     {
         match self {
             Tie::Untied => Ok(Tie::Untied),
-            Tie::Valued(path) => Ok(Tie::Valued(join_paths(alloc, path.as_slice(), &[])?)),
-            Tie::Keyed(path) => Ok(Tie::Keyed(join_paths(alloc, path.as_slice(), &[])?)),
+            Tie::Valued(path) => Ok(Tie::Valued(copy_path(alloc, path.as_slice())?)),
+            Tie::Keyed(path) => Ok(Tie::Keyed(copy_path(alloc, path.as_slice())?)),
         }
     }
 
@@ -63,8 +73,7 @@ impl Tie {
             (_, Tie::Untied) => true,
             (Tie::Valued(path), Tie::Valued(names)) => is_path(path.as_slice(), names.as_slice()),
             (Tie::Keyed(path), Tie::Keyed(names)) => is_path(path.as_slice(), names.as_slice()),
-            (Tie::Untied | Tie::Keyed(_), Tie::Valued(_)) => false,
-            (Tie::Untied | Tie::Valued(_), Tie::Keyed(_)) => false,
+            _ => false,
         }
     }
 
@@ -110,27 +119,27 @@ fn put_texts(alloc: Global, operands: &[Operand], names: &mut Vec<Bytes>) -> Res
     }
 }
 
-/// The names that lead to a place from its root.
-pub(crate) fn place_path(alloc: Global, place: &Place<'_>) -> Result<Vec<Bytes>, AllocError>
-    ensures { IfOk result (λ path. path.items ≡ (place_seen place.now).path) }
+/// The names that lead to the root of a place, and from there to the place.
+#[tactic(auto, using(std::proofs::lemmas::Grind::common_steps))]
+pub(crate) fn place_path(
+    alloc: Global,
+    root: &[Bytes],
+    place: &Place<'_>,
+) -> Result<Vec<Bytes>, AllocError>
+    ensures { IfOk result (λ path. path.items ≡ root.now ++ (place_seen place.now).path) }
 {
-    let mut names: Vec<Bytes> = Vec::new(alloc);
+    let mut names = copy_path(alloc, root)?;
     put_path(alloc, place.fields, &mut names)?;
     put_texts(alloc, place.keys, &mut names)?;
     Ok(names)
 }
 
-/// A copy of a chain, with one after it.
-pub(crate) fn join_paths(
-    alloc: Global,
-    path: &[Bytes],
-    more: &[Bytes],
-) -> Result<Vec<Bytes>, AllocError>
-    ensures { IfOk result (λ all. all.items ≡ path.now ++ more.now) }
+/// A copy of a chain.
+fn copy_path(alloc: Global, path: &[Bytes]) -> Result<Vec<Bytes>, AllocError>
+    ensures { IfOk result (λ names. names.items ≡ path.now) }
 {
     let mut names: Vec<Bytes> = Vec::new(alloc);
     put_path(alloc, path, &mut names)?;
-    put_path(alloc, more, &mut names)?;
     Ok(names)
 }
 
@@ -142,7 +151,7 @@ pub(crate) fn copy_origin(
     ensures { IfOk result (λ o. origin_of o ≡ origin_of origin.now) }
 {
     match origin {
-        Some(path) => Ok(Some(join_paths(alloc, path.as_slice(), &[])?)),
+        Some(path) => Ok(Some(copy_path(alloc, path.as_slice())?)),
         None => Ok(None),
     }
 }
@@ -151,18 +160,16 @@ pub(crate) fn copy_origin(
 pub(crate) fn rest_of<'n>(path: &[Bytes], names: &'n [Bytes]) -> Option<&'n [Bytes]>
     ensures { option_map (λ r. r.now) result ≡ rest_of path.now names.now }
 {
-    match path {
-        [] => Some(names),
-        [first, others @ ..] => match names {
-            [] => None,
-            [name, rest @ ..] => {
-                if first.as_slice() == name.as_slice() {
-                    rest_of(others, rest)
-                } else {
-                    None
-                }
+    match (path, names) {
+        ([], _) => Some(names),
+        ([first, others @ ..], [name, rest @ ..]) => {
+            if first.as_slice() == name.as_slice() {
+                rest_of(others, rest)
+            } else {
+                None
             }
-        },
+        }
+        ([_, _others @ ..], []) => None,
     }
 }
 
@@ -170,14 +177,12 @@ pub(crate) fn rest_of<'n>(path: &[Bytes], names: &'n [Bytes]) -> Option<&'n [Byt
 pub(crate) fn is_path(path: &[Bytes], names: &[Bytes]) -> bool
     ensures { result ≡ is_path path.now names.now }
 {
-    match path {
-        [] => match names {
-            [] => true,
-            [_, _more @ ..] => false,
-        },
-        [first, others @ ..] => match names {
-            [] => false,
-            [name, rest @ ..] => first.as_slice() == name.as_slice() && is_path(others, rest),
-        },
+    match (path, names) {
+        ([], []) => true,
+        ([first, others @ ..], [name, rest @ ..]) => {
+            first.as_slice() == name.as_slice() && is_path(others, rest)
+        }
+        ([], [_, _rest @ ..]) => false,
+        ([_, _others @ ..], []) => false,
     }
 }

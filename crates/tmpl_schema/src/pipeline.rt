@@ -14,8 +14,8 @@ ghost use Rattle.tmpl_schema.specs.computed.Check.{absent_field, alone, command_
 ghost use Rattle.tmpl_schema.specs.computed.View.{argument_kinds, called_shape, in_context, origin_of, state_of};
 
 use crate::facts::{Head, bounds_of, head_of, key_of, text_of};
-use crate::known::{variable_owner, variable_shape};
-use crate::origin::is_path;
+use crate::known::find_variable;
+use crate::origin::{Tie, is_path};
 use crate::state::{State, narrow_operand, operand_origin};
 use std::alloc::{AllocError, Global};
 use tmpl_funcs::Func;
@@ -126,12 +126,9 @@ impl Context<'_> {
         ensures { IfOk result (λ s. alone (in_context self.now operand_shape (operand_of first.now)) (shape_seen piped.entry) (operands_in rest.now)
             ≡ Some (shape_of s)) }
     {
-        match piped {
-            Some(_) => Err(self.may_fail(Cause::Command)),
-            None => match rest {
-                [] => self.operand_shape(first),
-                [_, _more @ ..] => Err(self.may_fail(Cause::Command)),
-            },
+        match (piped, rest) {
+            (None, []) => self.operand_shape(first),
+            _ => Err(self.may_fail(Cause::Command)),
         }
     }
 
@@ -150,8 +147,10 @@ impl Context<'_> {
                 chain_shape(self.base, absent, names.as_slice(), &self.state.dot)
             }
             Operand::Variable { name, fields } => {
-                match variable_shape(name.as_slice(), &self.state.known) {
-                    Some(shape) => chain_shape(self.base, absent, fields.as_slice(), shape),
+                match find_variable(name.as_slice(), &self.state.known) {
+                    Some(variable) => {
+                        chain_shape(self.base, absent, fields.as_slice(), &variable.shape)
+                    }
                     None => Err(self.may_fail(Cause::Command)),
                 }
             }
@@ -361,10 +360,11 @@ impl Context<'_> {
         let Operand::Variable { name, fields } = operand else {
             return false;
         };
-        match (fields.as_slice(), from) {
-            ([], Some(path)) => match variable_owner(name.as_slice(), &self.state.known) {
-                Some(names) => is_path(path.as_slice(), names),
-                None => false,
+        let variable = find_variable(name.as_slice(), &self.state.known);
+        match (fields.as_slice(), from, variable) {
+            ([], Some(path), Some(variable)) => match &variable.tie {
+                Tie::Keyed(names) => is_path(names.as_slice(), path.as_slice()),
+                Tie::Untied | Tie::Valued(_) => false,
             },
             _ => false,
         }

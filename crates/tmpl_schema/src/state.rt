@@ -2,7 +2,7 @@
 #![tactic(auto, using(tmpl_grammar::proofs::ViewLemmas::group_seen))]
 
 ghost use Rattle.std.specs.Prelude.{◌≡◌, IfOk};
-ghost use Rattle.std.specs.Option.{option_map};
+ghost use Rattle.std.specs.Option.{option_and_then, option_map};
 ghost use Rattle.tmpl_grammar.specs.View.{commands_in, operand_of, operands_in};
 ghost use Rattle.tmpl_shape.specs.View.{shape_of};
 ghost use Rattle.tmpl_shape.specs.computed.View.{base_of, test_seen};
@@ -15,9 +15,9 @@ use crate::facts::{
     pipeline_place, place_of,
 };
 use crate::known::{
-    Known, copy_known, put_variable, refine_all, refine_from, refine_variable, variable_origin,
+    Known, copy_known, find_variable, put_variable, refine_all, refine_from, refine_variable,
 };
-use crate::origin::{Tie, copy_origin, join_paths, place_path};
+use crate::origin::{Tie, copy_origin, place_path};
 use std::alloc::{AllocError, Global};
 use std::rc::Rc;
 use tmpl_funcs::Func;
@@ -69,7 +69,7 @@ fn root_origin<'s>(state: &'s State, root: Option<&[u8]>) -> Option<&'s [Bytes]>
         ≡ root_origin (state_of state.now) (option_map (λ name. name.now) root.entry) }
 {
     match root {
-        Some(name) => variable_origin(name, &state.known),
+        Some(name) => find_variable(name, &state.known)?.tie.path(),
         None => match &state.origin {
             Some(path) => Some(path.as_slice()),
             None => None,
@@ -77,19 +77,20 @@ fn root_origin<'s>(state: &'s State, root: Option<&[u8]>) -> Option<&'s [Bytes]>
     }
 }
 
-/// Where the value of a place is from.
+/// Where the value of a place is from, if there is one.
 fn place_origin(
     alloc: Global,
-    place: &Place<'_>,
+    place: Option<Place<'_>>,
     state: &State,
 ) -> Result<Option<Vec<Bytes>>, AllocError>
-    ensures { IfOk result (λ o. origin_of o ≡ place_origin (state_of state.now) (place_seen place.now)) }
+    ensures { IfOk result (λ o. origin_of o
+        ≡ option_and_then (place_origin (state_of state.now)) (option_map place_seen place.entry)) }
 {
+    let Some(place) = place else {
+        return Ok(None);
+    };
     match root_origin(state, place.root) {
-        Some(path) => {
-            let names = place_path(alloc, place)?;
-            Ok(Some(join_paths(alloc, path, names.as_slice())?))
-        }
+        Some(path) => Ok(Some(place_path(alloc, path, &place)?)),
         None => Ok(None),
     }
 }
@@ -102,10 +103,7 @@ pub(crate) fn pipeline_origin(
 ) -> Result<Option<Vec<Bytes>>, AllocError>
     ensures { IfOk result (λ o. origin_of o ≡ pipeline_origin (state_of state.now) (commands_in commands.now)) }
 {
-    match pipeline_place(commands) {
-        Some(place) => place_origin(alloc, &place, state),
-        None => Ok(None),
-    }
+    place_origin(alloc, pipeline_place(commands), state)
 }
 
 /// Where the value of an operand is from.
@@ -116,10 +114,7 @@ pub(crate) fn operand_origin(
 ) -> Result<Option<Vec<Bytes>>, AllocError>
     ensures { IfOk result (λ o. origin_of o ≡ operand_origin (state_of state.now) (operand_of operand.now)) }
 {
-    match place_of(operand) {
-        Some(place) => place_origin(alloc, &place, state),
-        None => Ok(None),
-    }
+    place_origin(alloc, place_of(operand), state)
 }
 
 /// Where a test shows what it does of the value of a place of no known provenance.
@@ -133,7 +128,7 @@ fn narrow_root(
         ≡ narrow_root (base_of base.now) (test_seen test.entry) (place_seen place.now) (state_of state.now)) }
 {
     let origin = copy_origin(base.alloc, &state.origin)?;
-    let path = place_path(base.alloc, place)?;
+    let path = place_path(base.alloc, &[], place)?;
     let names = path.as_slice();
     match place.root {
         None => {
@@ -159,7 +154,7 @@ fn narrow_from(
     ensures { IfOk result (λ k. state_of k
         ≡ narrow_from (base_of base.now) (test_seen test.entry) names.now (state_of state.now)) }
 {
-    let dot = refine_from(base, test, names, &state.origin, &state.dot)?;
+    let dot = refine_from(base, test, names, root_origin(state, None), &state.dot)?;
     let origin = copy_origin(base.alloc, &state.origin)?;
     let known = refine_all(base, test, names, &state.known)?;
     Ok(State { dot, origin, known })
@@ -177,9 +172,9 @@ fn narrow_to(
 {
     match place {
         None => copy_state(base.alloc, state),
-        Some(place) => match place_origin(base.alloc, &place, state)? {
+        Some(found) => match place_origin(base.alloc, place, state)? {
             Some(names) => narrow_from(base, test, names.as_slice(), state),
-            None => narrow_root(base, test, &place, state),
+            None => narrow_root(base, test, &found, state),
         },
     }
 }

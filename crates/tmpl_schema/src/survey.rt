@@ -6,10 +6,10 @@
 use crate::after::After;
 use crate::check::{Refusal, is_stop, mode_for};
 use crate::failure::{Doubt, Failure, Position};
-use crate::flow::{FallThrough, dot_after, fall_through, past_parts};
+use crate::flow::{dot_after, past_parts};
 use crate::known::{Bound, Known, after_parts, bind, copy_known};
 use crate::loops::check_loop;
-use crate::node::{Checker, Turns, after_node, at_head, in_body, in_other, in_turn, settle_soon};
+use crate::node::{Checker, Turns, after_node, at_head, in_body, in_part, in_turn, settle_soon};
 use crate::room::first_crowded;
 use crate::state::{State, at_start, copy_state, pipeline_origin};
 use crate::table::{Call, Callee, Entry};
@@ -59,12 +59,13 @@ struct Found {
     wanted: Vec<Call>,
 }
 
-/// The template that is visited, by its name.
+/// The template that is visited, by its name, and the variables at the head of the range around.
 #[derive(Clone, Copy)]
-struct Walk<'w> {
+struct Walk<'w, 'h> {
     checker: &'w Checker<'w>,
     question: &'w Question<'w>,
     name: &'w [u8],
+    head: Option<&'h Known>,
 }
 
 impl Found {
@@ -80,7 +81,7 @@ impl Found {
     /// Adds a failure that was met in the action that begins there.
     fn add(
         &mut self,
-        walk: &Walk<'_>,
+        walk: &Walk<'_, '_>,
         failure: Failure,
         position: Position,
     ) -> Result<(), AllocError> {
@@ -105,7 +106,7 @@ impl Found {
     /// Gives up, since no work is left where the action that begins there failed.
     fn give_up(
         &mut self,
-        walk: &Walk<'_>,
+        walk: &Walk<'_, '_>,
         failure: &Failure,
         position: Position,
     ) -> Result<(), AllocError> {
@@ -123,7 +124,7 @@ impl Found {
     /// Adds an alarm, if there is room for one more.
     fn add_doubt(
         &mut self,
-        walk: &Walk<'_>,
+        walk: &Walk<'_, '_>,
         cause: Cause,
         position: Option<Position>,
     ) -> Result<(), AllocError> {
@@ -148,8 +149,7 @@ impl Found {
 #[cycle(survey)]
 #[tactic(auto, using(crate::proofs::NodeLemmas::lighter))]
 fn survey_nodes(
-    walk: &Walk<'_>,
-    head: Option<&Known>,
+    walk: &Walk<'_, '_>,
     state: State,
     nodes: &[Node],
     found: &mut Found,
@@ -158,7 +158,7 @@ fn survey_nodes(
     let State { dot, origin, known } = state;
     let mut state = State { dot, origin, known };
     for node in nodes {
-        let known = match after_node(checker, head, &state, node) {
+        let known = match after_node(checker, walk.head, &state, node) {
             Ok(after) => {
                 let After { known, .. } = after;
                 known
@@ -168,7 +168,7 @@ fn survey_nodes(
                     found.give_up(walk, &failure, Position::of(node))?;
                     break;
                 }
-                survey_node(walk, head, &state, node, failure, found)?
+                survey_node(walk, &state, node, failure, found)?
             }
         };
         state.dot = dot_after(checker, &state, node)?;
@@ -180,8 +180,7 @@ fn survey_nodes(
 /// Visits a node that has this trouble.
 #[cycle(survey)]
 fn survey_node(
-    walk: &Walk<'_>,
-    head: Option<&Known>,
+    walk: &Walk<'_, '_>,
     state: &State,
     node: &Node,
     failure: Failure,
@@ -190,7 +189,7 @@ fn survey_node(
     let checker = walk.checker;
     match &node.what {
         NodeKind::Control(control) => {
-            survey_control(walk, head, state, control, Position::of(node), found)
+            survey_control(walk, state, control, Position::of(node), found)
         }
         NodeKind::Action(header) => {
             found.add(walk, failure, Position::of(node))?;
@@ -212,8 +211,7 @@ fn survey_node(
 /// Visits a control.
 #[cycle(survey)]
 fn survey_control(
-    walk: &Walk<'_>,
-    head: Option<&Known>,
+    walk: &Walk<'_, '_>,
     state: &State,
     control: &ControlNode,
     position: Position,
@@ -228,17 +226,17 @@ fn survey_control(
         }
     };
     match control.control {
-        Control::If => survey_choice(walk, head, state, control, &shape, position, found),
-        Control::With => survey_choice(walk, head, state, control, &shape, position, found),
-        Control::Range => survey_range(walk, head, state, control, &shape, position, found),
+        Control::If | Control::With => {
+            survey_choice(walk, state, control, &shape, position, found)
+        }
+        Control::Range => survey_range(walk, state, control, &shape, position, found),
     }
 }
 
 /// Visits an `if` or a `with` whose value has the shape.
 #[cycle(survey)]
 fn survey_choice(
-    walk: &Walk<'_>,
-    head: Option<&Known>,
+    walk: &Walk<'_, '_>,
     state: &State,
     control: &ControlNode,
     shape: &Shape,
@@ -247,27 +245,24 @@ fn survey_choice(
 ) -> Result<Known, AllocError> {
     let base = &walk.checker.base;
     let inside = in_body(base, control.control, &control.header, state, shape)?;
-    let one = survey_nodes(walk, head, inside, control.body.as_slice(), found)?;
-    let outside = in_other(base, &control.header, state, shape)?;
-    let other = survey_nodes(walk, head, outside, control.other.as_slice(), found)?;
-    let through = fall_through(
-        walk.checker,
-        control.body.as_slice(),
-        control.other.as_slice(),
-    );
-    survey_end(walk, through, state, &one, &other, position, found)
+    let one = survey_nodes(walk, inside, control.body.as_slice(), found)?;
+    let outside = in_part(base, false, &control.header, state, shape)?;
+    let other = survey_nodes(walk, outside, control.other.as_slice(), found)?;
+    survey_end(walk, state, control, &one, &other, position, found)
 }
 
-/// What is known after two parts of which a run may come past these.
+/// What is known after the two parts of a control.
 fn survey_end(
-    walk: &Walk<'_>,
-    through: FallThrough,
+    walk: &Walk<'_, '_>,
     state: &State,
+    control: &ControlNode,
     one: &Known,
     other: &Known,
     position: Position,
     found: &mut Found,
 ) -> Result<Known, AllocError> {
+    let (body, rest) = (control.body.as_slice(), control.other.as_slice());
+    let through = past_parts(walk.checker, control.control, body, rest);
     match after_parts(&walk.checker.base, through, &state.known, one, other) {
         Ok(known) => Ok(known),
         Err(failure) => {
@@ -280,8 +275,7 @@ fn survey_end(
 /// Visits a range over values of the shape.
 #[cycle(survey)]
 fn survey_range(
-    walk: &Walk<'_>,
-    head: Option<&Known>,
+    walk: &Walk<'_, '_>,
     state: &State,
     control: &ControlNode,
     shape: &Shape,
@@ -318,7 +312,11 @@ fn survey_range(
         Err(failure) => {
             let before = found.doubts.len().saturating_add(found.wanted.len());
             let inside = in_turn(&checker.base, &turns, &start)?;
-            survey_nodes(walk, Some(&start), inside, body, found)?;
+            let turn = Walk {
+                head: Some(&start),
+                ..*walk
+            };
+            survey_nodes(&turn, inside, body, found)?;
             if found.doubts.len().saturating_add(found.wanted.len()) == before {
                 found.add(walk, failure.into(), position)?;
             }
@@ -326,14 +324,13 @@ fn survey_range(
         }
     };
     let outside = copy_state(checker.base.alloc, state)?;
-    let other = survey_nodes(walk, head, outside, control.other.as_slice(), found)?;
-    let through = past_parts(checker, Control::Range, body, control.other.as_slice());
-    survey_end(walk, through, state, &known, &other, position, found)
+    let other = survey_nodes(walk, outside, control.other.as_slice(), found)?;
+    survey_end(walk, state, control, &known, &other, position, found)
 }
 
 /// Whether a template is a copy loop over texts; of one that calls what is neither there nor a stop, that is reported.
 fn survey_loop(
-    walk: &Walk<'_>,
+    walk: &Walk<'_, '_>,
     shape: &Shape,
     tree: &Tree,
     found: &mut Found,
@@ -369,6 +366,7 @@ fn survey_template(
         checker,
         question,
         name,
+        head: None,
     };
     match question.set.get(name) {
         Some(tree) => {
@@ -379,7 +377,7 @@ fn survey_template(
                 return Ok(());
             }
             let start = at_start(&checker.base, shape)?;
-            survey_nodes(&walk, None, start, tree.nodes.as_slice(), found)?;
+            survey_nodes(&walk, start, tree.nodes.as_slice(), found)?;
             Ok(())
         }
         None => {
@@ -451,14 +449,6 @@ fn with_alternatives(alloc: Global, all: Shape, more: Shape) -> Result<Shape, Al
     }
 }
 
-/// What the table says first of a template that is called with values of this shape.
-fn callee_of(base: &Base<'_>, set: &Set, name: &[u8], shape: &Shape) -> Result<Callee, AllocError> {
-    if set.get(name).is_none() {
-        return Ok(Callee::Absent);
-    }
-    Ok(Callee::Handed(copy_counted(base, shape)?))
-}
-
 /// Puts a template that is not in the table there. Gives the values for which it is yet to be visited.
 fn add_entry(
     base: &Base<'_>,
@@ -467,36 +457,32 @@ fn add_entry(
     name: &[u8],
     shape: &Shape,
 ) -> Result<Shape, AllocError> {
-    let callee = callee_of(base, set, name, shape)?;
-    let is_absent = matches!(callee, Callee::Absent);
+    let (callee, more) = match set.get(name) {
+        Some(_) => (
+            Callee::Handed(copy_counted(base, shape)?),
+            copy_counted(base, shape)?,
+        ),
+        None => (Callee::Absent, Shape::Never),
+    };
     table.push(Entry {
         name: copy_name(base.alloc, name)?,
         mark: mark_of(name),
         callee,
     })?;
-    if is_absent {
-        return Ok(Shape::Never);
-    }
-    copy_counted(base, shape)
+    Ok(more)
 }
 
 /// Adds values to those of an entry. Gives those of them that are new to it.
 fn widen(base: &Base<'_>, held: &mut Shape, shape: &Shape) -> Result<Shape, AllocError> {
     let more = part_beyond(base, shape, held)?;
-    add_values(base.alloc, held, &more)?;
+    let added = copy_shape(base.alloc, &more)?;
+    let all = mem::replace(held, Shape::Never);
+    *held = with_alternatives(base.alloc, all, added)?;
     Ok(more)
 }
 
-/// Adds values to those of an entry.
-fn add_values(alloc: Global, held: &mut Shape, more: &Shape) -> Result<(), AllocError> {
-    let added = copy_shape(alloc, more)?;
-    let all = mem::replace(held, Shape::Never);
-    *held = with_alternatives(alloc, all, added)?;
-    Ok(())
-}
-
 /// Puts a call into the table. Gives the values for which the template is yet to be visited.
-fn grow(
+fn put_call(
     base: &Base<'_>,
     set: &Set,
     table: &mut Vec<Entry>,
@@ -518,39 +504,6 @@ fn grow(
         ) => widen(base, held, &call.shape),
         _ => Ok(Shape::Never),
     }
-}
-
-/// Has a template wait for values for which it is yet to be visited, if there are any.
-fn put_waiting(
-    alloc: Global,
-    waiting: &mut Vec<Call>,
-    name: &[u8],
-    more: Shape,
-) -> Result<(), AllocError> {
-    if matches!(more, Shape::Never) {
-        return Ok(());
-    }
-    let name = copy_name(alloc, name)?;
-    waiting.push(Call { name, shape: more })?;
-    Ok(())
-}
-
-/// Puts calls into the table, and those templates that are yet to be visited with them to those that wait.
-fn grow_all(
-    base: &Base<'_>,
-    question: &Question<'_>,
-    table: &mut Vec<Entry>,
-    wanted: &[Call],
-    waiting: &mut Vec<Call>,
-) -> Result<(), AllocError> {
-    for call in wanted {
-        if base.effort.is_spent() {
-            break;
-        }
-        let more = grow(base, question.set, table, call)?;
-        put_waiting(base.alloc, waiting, call.name.as_slice(), more)?;
-    }
-    Ok(())
 }
 
 /// Visits the template that is asked for, and each of the table.
@@ -658,14 +611,24 @@ impl Search {
         self.grow(&checker.base, question, wanted.as_slice())
     }
 
-    /// Puts calls into the table.
+    /// Puts calls into the table, and those templates that are yet to be visited with them to those that wait.
     fn grow(
         &mut self,
         base: &Base<'_>,
         question: &Question<'_>,
         wanted: &[Call],
     ) -> Result<(), AllocError> {
-        grow_all(base, question, &mut self.table, wanted, &mut self.waiting)
+        for call in wanted {
+            if base.effort.is_spent() {
+                break;
+            }
+            let shape = put_call(base, question.set, &mut self.table, call)?;
+            if !matches!(shape, Shape::Never) {
+                let name = copy_name(base.alloc, call.name.as_slice())?;
+                self.waiting.push(Call { name, shape })?;
+            }
+        }
+        Ok(())
     }
 
     /// Visits templates that wait, each for the values alone that are new to it, and those that they call. Gives

@@ -2,6 +2,7 @@
 use Rattle.std.specs.Prelude.{ℕ, zero, suc, pos, ◌+◌, ◌-◌, ◌==◌, nat_le, Bool, true, false, not, ◌&&◌, ◌||◌, List, [], ◌∷◌, ◌++◌, length, drop}
 use Rattle.std.specs.Prelude.{Option, Some, None, option_to_list, unwrap_or, if◌then◌else◌}
 use Rattle.std.specs.Option.{option_map, option_map_or, option_and_then}
+use Rattle.std.specs.List.{find}
 use Rattle.std.specs.Str.{bytes_eq}
 use Rattle.tmpl_grammar.specs.Tree.{Operand, dot, fields, variable, bool_constant, number_constant, text_constant, nil}
 use Rattle.tmpl_grammar.specs.Tree.{function, group, Operands, no_operand, operand, Pipeline, no_command, command}
@@ -45,30 +46,21 @@ abbrev pub key_tie : Origin → Tie
 key_tie None = untied
 key_tie (Some ps) = keyed ps
 
--- the chain at which its value is, and that of which it is an index or a key
+-- the chain at which its value is
 abbrev pub path_of : Tie → Origin
 path_of (valued ps) = Some ps
 path_of t = None
 
-abbrev pub owner_of : Tie → Origin
-owner_of (keyed ps) = Some ps
-owner_of t = None
+-- a variable: its name, its shape and its tie
+abbrev pub Variable : Type 0
+Variable = List ℕ × Shape × Tie
 
--- the variables in scope, each with its shape and its tie, the newest first
+-- the variables in scope, the newest first, and the newest of a name
 abbrev pub Known : Type 0
-Known = List (List ℕ × Shape × Tie)
+Known = List Variable
 
-abbrev pub variable_shape : List ℕ → Known → Option Shape
-variable_shape name [] = None
-variable_shape name (k ∷ ks) = if bytes_eq k.0 name then Some k.1 else variable_shape name ks
-
-abbrev pub variable_origin : List ℕ → Known → Origin
-variable_origin name [] = None
-variable_origin name (k ∷ ks) = if bytes_eq k.0 name then path_of k.2 else variable_origin name ks
-
-abbrev pub variable_owner : List ℕ → Known → Origin
-variable_owner name [] = None
-variable_owner name (k ∷ ks) = if bytes_eq k.0 name then owner_of k.2 else variable_owner name ks
+abbrev pub find_variable : List ℕ → Known → Option Variable
+find_variable name ks = find (λ k. bytes_eq k.0 name) ks
 
 abbrev pub assigned_shape : List ℕ → Shape → Tie → Known → Known
 assigned_shape name s t [] = []
@@ -336,7 +328,7 @@ pub record State : Type 0 where
 
 -- where the value of a place is from
 abbrev pub root_origin : State → Option (List ℕ) → Origin
-root_origin k root = option_map_or (λ name. variable_origin name k.env) root k.from
+root_origin k root = option_map_or (λ name. option_and_then (λ v. path_of v.2) (find_variable name k.env)) root k.from
 
 abbrev pub place_origin : State → Place → Origin
 place_origin k p = option_map (λ ps. ps ++ p.path) (root_origin k p.root)
@@ -362,7 +354,7 @@ operand_origin k o = option_and_then (place_origin k) (place_of o)
 
 -- an operand is a variable that is an index or a key of what is at this chain
 abbrev pub is_index : State → Operand → Origin → Bool
-is_index k (variable name []) (Some ps) = option_map_or (is_path ps) (variable_owner name k.env) false
+is_index k (variable name []) (Some ps) = option_map_or (λ v. tie_within v.2 (keyed ps)) (find_variable name k.env) false
 is_index k o from = false
 
 -- what is known of a template that is called: the shape of what it is handed, or that it is not there
@@ -425,6 +417,10 @@ abbrev pub past_parts : Control → Table → Nodes → Nodes → FallThrough
 past_parts control.Range table body other = if any_diverges table other then Body else Both
 past_parts c table body other = fall_through table body other
 
+-- the variables, where a header binds them to its value, which has this shape
+abbrev pub bind_value : Header → State → Shape → Known → Known
+bind_value h k s ks = bound_shapes h.binding nothings s None (pipeline_origin k h.pipeline) ks
+
 -- where a turn of a range begins
 abbrev pub in_turn : Header → Visit → Origin → Known → State
 in_turn h v over ks = record { dot = v.element; from = None; env = bound_shapes h.binding v.key v.element over None ks }
@@ -444,11 +440,8 @@ module _ (base : Base) where
       if bytes_eq k.0 name then (k.0, refine base test ns k.1, k.2) ∷ ks else k ∷ refine_variable test name ns ks
 
   -- the values of a provenance, where this chain from the data of the template is so
-  abbrev pub refine_along : Test → List (List ℕ) → Shape → Option (List (List ℕ)) → Shape
-  refine_along test ns s rest = option_map_or (λ ms. refine base test ms s) rest s
-
   abbrev pub refine_from : Test → List (List ℕ) → Origin → Shape → Shape
-  refine_from test ns o s = refine_along test ns s (option_and_then (λ ps. rest_of ps ns) o)
+  refine_from test ns o s = option_map_or (λ ms. refine base test ms s) (option_and_then (λ ps. rest_of ps ns) o) s
 
   abbrev pub refine_all : Test → List (List ℕ) → Known → Known
   refine_all test ns [] = []
@@ -571,7 +564,7 @@ module _ (base : Base) where
     pub operand_shape : MissingKey → State → Operand → Option Shape
     operand_shape m k dot = Some k.dot
     operand_shape m k (fields names) = chain_shape base (absent_field m) names k.dot
-    operand_shape m k (variable name names) = option_and_then (chain_shape base (absent_field m) names) (variable_shape name k.env)
+    operand_shape m k (variable name names) = option_and_then (λ v. chain_shape base (absent_field m) names v.1) (find_variable name k.env)
     operand_shape m k (bool_constant c) = Some (exactly (constant.Bool c))
     operand_shape m k (number_constant n) = Some numbers
     operand_shape m k (text_constant bytes) = Some (text_shape bytes)
@@ -682,16 +675,15 @@ module _ (base : Base) where
   abbrev pub turn_known : Header → Visit → Origin → (Option Known → Checked) → Known → Option Known
   turn_known h v over body ks = option_and_then (λ a. with_left (last_of (length ks) a.env) a.left) (body (Some ks) (in_turn h v over ks))
 
-  -- where an `if` or a `with` goes on with its body, and with its other part
+  -- where an `if` or a `with` whose value is not empty, or else is, goes on with a part, in which it has this shape
+  abbrev pub in_part : Bool → Header → State → Shape → State
+  in_part c h k s = let u = narrow c h.pipeline k in record u { env = bind_value h k s u.env }
+
+  -- .. with its body
   abbrev pub in_body : Control → Header → State → Shape → State
   in_body c h k s =
-      let u = narrow true h.pipeline k in
-      let o = pipeline_origin k h.pipeline in
-      record { dot = dot_in c (fill base s) u.dot; from = dot_in c o u.from; env = bound_shapes h.binding nothings (fill base s) None o u.env }
-
-  abbrev pub in_other : Header → State → Shape → State
-  in_other h k s =
-      let u = narrow false h.pipeline k in record u { env = bound_shapes h.binding nothings s None (pipeline_origin k h.pipeline) u.env }
+      let u = in_part true h k (fill base s) in
+      record u { dot = dot_in c (fill base s) u.dot; from = dot_in c (pipeline_origin k h.pipeline) u.from }
 
   -- .. of which a run may come past these
   abbrev pub after_parts : FallThrough → Known → Known → Known → Option Known
@@ -706,7 +698,7 @@ module _ (base : Base) where
 
   abbrev pub after_choice : FallThrough → Control → Header → State → Checked → Checked → Shape → Option After
   after_choice w c h k body other s =
-      option_and_then (λ a. option_and_then (end_parts w k.env a) (other (in_other h k s))) (body (in_body c h k s))
+      option_and_then (λ a. option_and_then (end_parts w k.env a) (other (in_part false h k s))) (body (in_body c h k s))
 
   -- what is known of dot after them
   abbrev pub dot_by : FallThrough → Pipeline → State → Shape
@@ -743,7 +735,7 @@ module _ (base : Base) where
     pub after_node : MissingKey → Table → Option Known → State → NodeKind → Option After
     after_node m table loop k (text bytes) = Some (past k.env)
     after_node m table loop k (action h) =
-        option_map (λ s. past (bound_shapes h.binding nothings s None (pipeline_origin k h.pipeline) k.env)) (pipeline_shape m k h.pipeline)
+        option_map (λ s. past (bind_value h k s k.env)) (pipeline_shape m k h.pipeline)
     after_node m table loop k (control_node c h body other) =
         if holds_loop loop k.env then option_and_then
         (after_control (past_parts c table body other) c loop h k (λ l u. after_nodes m table l None u body) (λ u. after_nodes m table loop None u other))

@@ -15,8 +15,8 @@ use Rattle.tmpl_schema.specs.declared.facts.Head as held_head
 use Rattle.tmpl_schema.specs.declared.facts.Head.TheVariants as head
 use Rattle.tmpl_schema.specs.declared.facts.Place as held_place
 use Rattle.tmpl_schema.specs.computed.Check.{Fact, Head, calls, is_nil, is_value, Place, texts_in}
-use Rattle.tmpl_schema.specs.computed.Check.{Known, Origin, Tie, untied, valued, keyed, State, After, Callee, Table, handed, absent, past, operand_shapes, after_choice, after_nodes}
-use Rattle.tmpl_schema.specs.computed.Check.{after_range, fall_through, past_parts, bound_shapes, call_state, command_call, counts_in, narrow_all, narrow_as, piped_fact, pipeline_origin, pipeline_shape, turn_known}
+use Rattle.tmpl_schema.specs.computed.Check.{Known, Variable, Origin, Tie, untied, valued, keyed, State, After, Callee, Table, handed, absent, operand_shapes, after_choice, after_nodes}
+use Rattle.tmpl_schema.specs.computed.Check.{after_range, fall_through, past_parts, call_state, command_call, counts_in, narrow_all, narrow_as, piped_fact, turn_known}
 use Rattle.tmpl_grammar.specs.Tree.{Header}
 use Rattle.tmpl_syntax.specs.Tree.{Nodes}
 use Rattle.tmpl_grammar.specs.declared.tree.Control.{Control}
@@ -36,6 +36,8 @@ use Rattle.tmpl_schema.specs.declared.origin.Tie as held_tie
 use Rattle.tmpl_schema.specs.declared.origin.Tie.TheVariants as tie
 use Rattle.tmpl_schema.specs.declared.known.Known.{fold-Known}
 use Rattle.tmpl_schema.specs.declared.known.Known.TheOpen.{Known-F, Variable-F}
+use Rattle.tmpl_schema.specs.declared.known.Variable as held_variable
+use Rattle.tmpl_schema.specs.declared.known.Variable.{out-Variable}
 use Rattle.tmpl_schema.specs.declared.pipeline.Context as held_context
 use Rattle.tmpl_schema.specs.declared.state.State as held_state
 
@@ -46,6 +48,9 @@ abbrev pub tie_seen : held_tie.Tie → Tie
 tie_seen (tie.Valued path) = valued path.items
 tie_seen (tie.Keyed path) = keyed path.items
 tie_seen tie.Untied = untied
+
+abbrev pub variable_of : held_variable.Variable → Variable
+variable_of v = let held = out-Variable v in (held.name, shape_of held.shape.value, tie_seen held.tie)
 
 abbrev pub known_step : Known-F Known Known → Known
 known_step Known-F.Empty = []
@@ -121,11 +126,6 @@ callee_seen c = option_map (λ c. callee_of c.now) c
 abbrev pub table_of : List held_entry.Entry → Table
 table_of [] x = None
 table_of (e ∷ es) x = if bytes_eq x e.name then Some (callee_of e.callee) else table_of es x
-
--- what is known after an action
-abbrev pub after_action : computed.Base → MissingKey → State → Header → Option After
-after_action base m k h =
-    option_map (λ s. past (bound_shapes h.binding spec.nothings s None (pipeline_origin k h.pipeline) k.env)) (pipeline_shape base m k h.pipeline)
 
 -- after a turn of a range with this body
 abbrev pub turn_by : computed.Base → MissingKey → Table → Header → computed.Visit → Origin → Nodes → Known → Option Known

@@ -10,8 +10,8 @@ use Rattle.tmpl_schema.specs.computed.View.{entries_of, table_of}
 use Rattle.tmpl_schema.proofs.AcceptLemmas.{all-accepted}
 use Rattle.tmpl_schema.proofs.check.check_all.Goals as goal
 
-pub returns-in_ok-check_callees-in-Ok : goal.returns-in_ok-check_callees-in-Ok
-returns-in_ok-check_callees-in-Ok c =
+pub returns-in_ok-check_callees-in-Some : goal.returns-in_ok-check_callees-in-Some
+returns-in_ok-check_callees-in-Some c =
     let base = base_of c.args.base.now in
     let q = c.args.question.now in
     let asked = q.asked in

@@ -8,8 +8,8 @@ use Rattle.tmpl_shape.specs.computed.Shapes.{Base}
 use Rattle.tmpl_schema.proofs.AcceptLemmas.{schema-accepted}
 use Rattle.tmpl_schema.proofs.check.check_schema.Goals as goal
 
-pub returns-in-Ok : goal.returns-in-Ok
-returns-in-Ok c =
+pub returns : goal.returns
+returns c =
     let base : Base = record { defs = defs_in c.as_slice.result.now; names = 6; limit = 150 } in
     let asked = c.args.mode in
     let stops = c.args.stops.now in
@@ -17,4 +17,4 @@ returns-in-Ok c =
     let name = c.args.name.now in
     on_ok_weaker c.check_shape.result
     (λ h. schema-accepted base asked stops set name (schema_of c.args.schema.now) (ap defs_in c.as_slice.ensures.value)
-    (subst (λ (s : Shape). NeverFailsIn base asked stops set name s) c.in-Ok.ensures h)) c.check_shape.ensures
+    (subst (λ (s : Shape). NeverFailsIn base asked stops set name s) c.in_ok-shape.ensures h)) c.check_shape.ensures

@@ -4,12 +4,13 @@ use Rattle.tmpl_grammar.specs.declared.tree.Control.TheVariants as control
 use Rattle.tmpl_syntax.specs.Tree.{control_node}
 use Rattle.tmpl_syntax.specs.View.{control_of, nodes_in}
 use Rattle.tmpl_syntax.specs.declared.tree.ControlNode.{out-ControlNode}
+use Rattle.tmpl_syntax.proofs.ViewLemmas.{control_of-fields}
 use Rattle.tmpl_shape.specs.View.{shape_of}
 use Rattle.tmpl_schema.specs.declared.flow.FallThrough.{FallThrough}
 use Rattle.tmpl_schema.specs.computed.Check.{After, Known, State, after_nodes, end_parts, holds_loop, past, past_parts, pipeline_origin, pipeline_shape, settle_known, settle_soon}
 use Rattle.tmpl_shape.specs.computed.View.{base_of, visit_seen}
 use Rattle.tmpl_schema.specs.computed.View.{after_of, known_of, known_seen, origin_of, state_of, table_of, turn_by}
-use Rattle.tmpl_schema.proofs.ControlLemmas.{control_seen, range-control, range-is}
+use Rattle.tmpl_schema.proofs.ControlLemmas.{range-control, range-is}
 use Rattle.tmpl_schema.proofs.StepLemmas.{soon-settle_known}
 use Rattle.tmpl_schema.proofs.node.+node.Goals as goal
 
@@ -55,7 +56,7 @@ after_control-returns t c =
     let h = header_of (out-ControlNode c.args.control.now).header in
     let body = nodes_in c.as_slice.result.now in
     let other = nodes_in c.as_slice-2.result.now in
-    let seen : control_of c.args.control.now ≡ control_node control.Range h body other = rw (control_seen c.args.control.now) (search rules) in
+    let seen : control_of c.args.control.now ≡ control_node control.Range h body other = rw (control_of-fields c.args.control.now) (search rules) in
     let holds : holds_loop loop k.env ≡ true = search rules in
     let shape : pipeline_shape base m k h.pipeline ≡ Some (shape_of c.in_ok-shape.shape) = search rules in
     subst (λ (o : Option After). IfOk c.after_range.result (λ a. o ≡ Some (after_of a)))
