@@ -13,7 +13,6 @@ pub mod StepLemmas
 pub mod LengthLemmas
 pub mod FactLemmas
 pub mod PipelineLemmas
-pub mod NodeLemmas
 pub mod RoomLemmas
 pub mod ControlLemmas
 pub mod ModeLemmas

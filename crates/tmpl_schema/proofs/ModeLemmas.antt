@@ -16,7 +16,7 @@ use Rattle.tmpl_syntax.specs.Set.{Template}
 use Rattle.tmpl_funcs.specs.Func.{takes}
 use Rattle.tmpl_funcs.specs.declared.func.Func.{Func}
 use Rattle.tmpl_funcs.specs.declared.func.Func.TheVariants as func
-use Rattle.tmpl_meaning.specs.Pipeline.{operand_count}
+use Rattle.tmpl_grammar.specs.Tree.{operand_count}
 use Rattle.tmpl_meaning.specs.declared.missing_key.MissingKey.{MissingKey}
 use Rattle.tmpl_meaning.specs.declared.missing_key.MissingKey.TheVariants.{Error}
 use Rattle.tmpl_shape.specs.Shape.{Shape, never, nothings, record_of, either, named, Fields, no_field, others, field}

@@ -1,14 +1,12 @@
 -- For code on pipelines: the weight of operands one level at a time, by which its recursion ends, how many there are, and
 -- their shapes as arguments.
-use Rattle.std.proofs.Common.{◌≡◌, ◌∙◌, ◌+◌, ◌++◌, ℕ, suc, true, List, [], ◌∷◌, map, Option, Some, None, length, option_to_list, refl, ap, sym, subst, append_assoc}
+use Rattle.std.proofs.Common.{◌≡◌, ◌∙◌, ◌+◌, ◌++◌, ℕ, true, List, [], ◌∷◌, map, Option, Some, None, length, option_to_list, refl, ap, sym, subst, append_assoc}
 use Rattle.std.specs.Option.{option_map, option_and_then}
-use Rattle.tmpl_grammar.specs.Tree.{Operand, nil, function, group, Operands, no_operand, operand, Pipeline, no_command, command}
-use Rattle.tmpl_grammar.specs.View.{operands_in}
-use Rattle.tmpl_grammar.specs.declared.tree.Operand as held
+use Rattle.tmpl_grammar.specs.Tree.{Operand, nil, function, Operands, operand, command}
 use Rattle.tmpl_funcs.specs.Func.{takes}
 use Rattle.tmpl_funcs.specs.declared.func.Func.{Func}
 use Rattle.tmpl_funcs.specs.declared.func.Func.TheVariants as func
-use Rattle.tmpl_meaning.specs.Pipeline.{operand_count}
+use Rattle.tmpl_grammar.specs.Tree.{operand_count}
 use Rattle.tmpl_meaning.specs.declared.missing_key.MissingKey.{MissingKey}
 use Rattle.tmpl_shape.specs.Shape.{Shape}
 use Rattle.tmpl_shape.specs.declared.kind.Kinds.{Kinds}
@@ -17,26 +15,6 @@ use Rattle.tmpl_shape.specs.computed.Calls.{kinds_shape}
 use Rattle.tmpl_schema.specs.computed.Check.{State, calls, is_value, head_of, alone, command_shape, operand_shape, operand_shapes, printed_shape, text_of}
 use Rattle.tmpl_shape.specs.computed.Formats.{printed_kinds}
 use Rattle.tmpl_schema.specs.computed.View.{argument_kinds, called_shape}
-
-pub operand_count-of : (os : List held.Operand) → operand_count (operands_in os) ≡ length os
-operand_count-of [] = refl
-operand_count-of (o ∷ os) = ap suc (operand_count-of os)
-
-pub ruleset counts = (operand_count-of)
-
--- how much there is to look at
-abbrev mutual
-  pub weight : Operand → ℕ
-  weight (group commands names) = suc (all_weight commands)
-  weight _ = 0
-
-  pub weights : Operands → ℕ
-  weights no_operand = 0
-  weights (operand o os) = suc (weight o + weights os)
-
-  pub all_weight : Pipeline → ℕ
-  all_weight no_command = 0
-  all_weight (command os cs) = suc (weights os + all_weight cs)
 
 module _ (base : Base) (m : MissingKey) (k : State) where
   pub more-arguments : (o : Operand) (os : Operands) (piped : Option Shape) (s : Shape) (ks ls : List Kinds) → operand_shape base m k o ≡ Some s

@@ -52,7 +52,8 @@ use Rattle.tmpl_schema.proofs.CallLemmas.{HaveShapes, call-gives}
 use Rattle.tmpl_funcs.specs.Func.{takes}
 use Rattle.tmpl_funcs.specs.declared.func.Func.{Func}
 use Rattle.tmpl_funcs.specs.declared.func.Func.TheVariants as func
-use Rattle.tmpl_meaning.specs.Pipeline.{apply_function, by_function, decides, junction, operand_count, operand_values}
+use Rattle.tmpl_grammar.specs.Tree.{operand_count}
+use Rattle.tmpl_meaning.specs.Pipeline.{apply_function, by_function, decides, junction, operand_values}
 use Rattle.tmpl_meaning.proofs.PartLemmas.{by_count, decided}
 
 -- ---- numbers of items

@@ -401,7 +401,7 @@ pub(crate) fn after_node(
 
 /// After nodes.
 #[cycle(node)]
-#[tactic(auto, using(crate::proofs::NodeLemmas::lighter))]
+#[tactic(auto, using(tmpl_syntax::proofs::WeightLemmas::lighter))]
 pub(crate) fn after_nodes(
     checker: &Checker<'_>,
     head: Option<&Known>,

@@ -5,7 +5,7 @@ ghost use Rattle.std.specs.Prelude.{◌≡◌, ◌+◌, ◌++◌, [], IfOk, OnOk
 ghost use Rattle.std.specs.Option.{option_map};
 ghost use Rattle.tmpl_grammar.specs.Tree.{function, operand};
 ghost use Rattle.tmpl_grammar.specs.View.{commands_in, operand_of, operands_in};
-ghost use Rattle.tmpl_meaning.specs.Pipeline.{operand_count};
+ghost use Rattle.tmpl_grammar.specs.Tree.{operand_count};
 ghost use Rattle.tmpl_funcs.specs.Func.{takes};
 ghost use Rattle.tmpl_shape.specs.View.{shape_of};
 ghost use Rattle.tmpl_shape.specs.computed.Calls.{kinds_shape};
@@ -51,7 +51,7 @@ fn text_shape(alloc: Global, text: &[u8]) -> Result<Shape, AllocError>
 }
 
 /// How many arguments there are.
-#[tactic(auto, using(crate::proofs::PipelineLemmas::counts))]
+#[tactic(auto, using(tmpl_grammar::proofs::WeightLemmas::counts))]
 fn argument_count(operands: &[Operand], piped: Option<&Shape>) -> u64
     ensures { result ≡ operand_count (operands_in operands.now) + length (option_to_list (shape_seen piped.entry)) }
 {

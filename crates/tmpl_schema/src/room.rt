@@ -1,7 +1,7 @@
 //! Whether the stack of the machine has room for the check of a template. A check goes down by what a template has inside
 //! one another or one after the other: controls, variables, commands, operands and fields. What each of these takes at the
 //! most is added up along the way down, and a template that needs more than there is for it is not looked at.
-#![tactic(auto, using(crate::proofs::NodeLemmas::lighter, crate::proofs::RoomLemmas::lighter))]
+#![tactic(auto, using(tmpl_syntax::proofs::WeightLemmas::lighter, tmpl_grammar::proofs::WeightLemmas::lighter, crate::proofs::RoomLemmas::lighter))]
 
 use crate::failure::Position;
 use tmpl_grammar::{Binding, Command, Header, Operand};

@@ -147,7 +147,7 @@ impl Found {
 
 /// Visits nodes, and gives what is known after them.
 #[cycle(survey)]
-#[tactic(auto, using(crate::proofs::NodeLemmas::lighter))]
+#[tactic(auto, using(tmpl_syntax::proofs::WeightLemmas::lighter))]
 fn survey_nodes(
     walk: &Walk<'_, '_>,
     state: State,

@@ -20,7 +20,7 @@ use Rattle.tmpl_shape.specs.declared.constant.Constant.TheVariants as constant
 use Rattle.tmpl_funcs.specs.Func.{takes}
 use Rattle.tmpl_funcs.specs.declared.func.Func.{Func}
 use Rattle.tmpl_funcs.specs.declared.func.Func.TheVariants.{And, Or, Not, Len, Index, Eq, Ne, Lt, Le, Gt, Ge}
-use Rattle.tmpl_meaning.specs.Pipeline.{operand_count}
+use Rattle.tmpl_grammar.specs.Tree.{operand_count}
 use Rattle.tmpl_shape.specs.declared.kind.Kind.TheVariants.{Blank, Number}
 use Rattle.tmpl_shape.specs.computed.Shapes.{Base, Test, has_least, is_among, is_apart, has_kind, within, join, both, fill, null_gone, refine, chain_shape}
 use Rattle.tmpl_shape.specs.computed.Shapes.{Key, of_name, of_text, of_place, index_shape, part_shape, Visit, visit_of}

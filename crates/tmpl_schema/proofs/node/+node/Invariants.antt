@@ -3,7 +3,7 @@ use Rattle.tmpl_syntax.specs.View.{control_of, node_of, nodes_in}
 use Rattle.tmpl_schema.specs.computed.Check.{after_nodes}
 use Rattle.tmpl_shape.specs.computed.View.{base_of}
 use Rattle.tmpl_schema.specs.computed.View.{known_seen, left_of, state_of, table_of}
-use Rattle.tmpl_schema.proofs.NodeLemmas.{node_weight, nodes_weight}
+use Rattle.tmpl_syntax.proofs.WeightLemmas.{node_weight, nodes_weight}
 use Rattle.tmpl_schema.proofs.node.+node.Given as goal
 
 abbrev pub decreases-after_nodes : goal.decreases-after_nodes

@@ -1,6 +1,6 @@
 use Rattle.std.proofs.Common.{◌+◌, ◌*◌}
 use Rattle.tmpl_syntax.specs.View.{control_of, node_of, nodes_in}
-use Rattle.tmpl_schema.proofs.NodeLemmas.{node_weight, nodes_weight}
+use Rattle.tmpl_syntax.proofs.WeightLemmas.{node_weight, nodes_weight}
 use Rattle.tmpl_schema.proofs.room.+few.Given as goal
 
 abbrev pub decreases-left_in : goal.decreases-left_in

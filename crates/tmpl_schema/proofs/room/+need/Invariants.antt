@@ -1,5 +1,5 @@
 use Rattle.tmpl_grammar.specs.View.{commands_in, operand_of, operands_in}
-use Rattle.tmpl_schema.proofs.PipelineLemmas.{all_weight, weight, weights}
+use Rattle.tmpl_grammar.proofs.WeightLemmas.{all_weight, weight, weights}
 use Rattle.tmpl_schema.proofs.room.+need.Given as goal
 
 abbrev pub decreases-pipeline_need : goal.decreases-pipeline_need

@@ -1,6 +1,6 @@
 use Rattle.std.proofs.Common.{◌+◌, ◌*◌}
 use Rattle.tmpl_grammar.specs.View.{commands_in, operand_of, operands_in}
-use Rattle.tmpl_schema.proofs.PipelineLemmas.{all_weight, weight, weights}
+use Rattle.tmpl_grammar.proofs.WeightLemmas.{all_weight, weight, weights}
 use Rattle.tmpl_schema.proofs.state.+narrow.Given as goal
 
 abbrev pub decreases-narrow : goal.decreases-narrow

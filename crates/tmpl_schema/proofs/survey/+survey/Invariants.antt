@@ -1,6 +1,6 @@
 use Rattle.std.proofs.Common.{◌+◌, ◌*◌}
 use Rattle.tmpl_syntax.specs.View.{control_of, node_of, nodes_in}
-use Rattle.tmpl_schema.proofs.NodeLemmas.{node_weight, nodes_weight}
+use Rattle.tmpl_syntax.proofs.WeightLemmas.{node_weight, nodes_weight}
 use Rattle.tmpl_schema.proofs.survey.+survey.Given as goal
 
 abbrev pub decreases-survey_nodes : goal.decreases-survey_nodes
