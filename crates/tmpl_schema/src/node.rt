@@ -325,13 +325,10 @@ fn after_range(
         (state_of state.now) (nodes_in parts.now.body.now) (nodes_in parts.now.other.now) (shape_of shape.now)
         ≡ Some (after_of a)) }
 {
-    let visit = visit_of(&checker.base, &parts.header.binding, shape)?;
-    let start = at_head(&checker.base, parts.header, state)?;
-    let over = pipeline_origin(
-        checker.base.alloc,
-        parts.header.pipeline.commands.as_slice(),
-        state,
-    )?;
+    let base = &checker.base;
+    let visit = visit_of(base, &parts.header.binding, shape)?;
+    let start = at_head(base, parts.header, state)?;
+    let over = pipeline_origin(base.alloc, parts.header.pipeline.commands.as_slice(), state)?;
     let turns = Turns {
         header: parts.header,
         visit: &visit,
@@ -339,11 +336,11 @@ fn after_range(
         body: parts.body,
     };
     let settled_head = settle_soon(checker, &start, &turns)?;
-    let outside = copy_state(checker.base.alloc, state)?;
+    let outside = copy_state(base.alloc, state)?;
     let other = after_nodes(checker, head, outside, parts.other)?;
     let through = past_parts(checker, Control::Range, parts.body, parts.other);
     let settled = After::past(settled_head);
-    Ok(end_parts(&checker.base, through, &state.known, settled, other)?)
+    Ok(end_parts(base, through, &state.known, settled, other)?)
 }
 
 /// After a control.

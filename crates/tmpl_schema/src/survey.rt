@@ -282,9 +282,9 @@ fn survey_range(
     position: Position,
     found: &mut Found,
 ) -> Result<Known, AllocError> {
-    let checker = walk.checker;
+    let base = &walk.checker.base;
     let header = &control.header;
-    let visit = match visit_of(&checker.base, &header.binding, shape) {
+    let visit = match visit_of(base, &header.binding, shape) {
         Ok(visit) => visit,
         Err(failure) => {
             found.add(walk, failure.into(), position)?;
@@ -294,24 +294,20 @@ fn survey_range(
             }
         }
     };
-    let start = at_head(&checker.base, header, state)?;
+    let start = at_head(base, header, state)?;
     let body = control.body.as_slice();
-    let over = pipeline_origin(
-        checker.base.alloc,
-        header.pipeline.commands.as_slice(),
-        state,
-    )?;
+    let over = pipeline_origin(base.alloc, header.pipeline.commands.as_slice(), state)?;
     let turns = Turns {
         header,
         visit: &visit,
         over: &over,
         body,
     };
-    let known = match settle_soon(checker, &start, &turns) {
+    let known = match settle_soon(walk.checker, &start, &turns) {
         Ok(known) => known,
         Err(failure) => {
             let before = found.doubts.len().saturating_add(found.wanted.len());
-            let inside = in_turn(&checker.base, &turns, &start)?;
+            let inside = in_turn(base, &turns, &start)?;
             let turn = Walk {
                 head: Some(&start),
                 ..*walk
@@ -323,7 +319,7 @@ fn survey_range(
             start
         }
     };
-    let outside = copy_state(checker.base.alloc, state)?;
+    let outside = copy_state(base.alloc, state)?;
     let other = survey_nodes(walk, outside, control.other.as_slice(), found)?;
     survey_end(walk, state, control, &known, &other, position, found)
 }
